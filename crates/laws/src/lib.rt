@@ -1,0 +1,1 @@
+// Nothing to run: the laws that several crates share stand in specs/.

@@ -1,0 +1,147 @@
+-- What an image shows of its plan, at the offsets that the code computes. Assumes nothing.
+use mathlib.Core.Path.{_≡_, refl, sym, ap, _∙_}
+use mathlib.Core.Logic.{_⊎_, inl, inr, ⊎-elim}
+use mathlib.Core.List.{List, [], _∷_, _++_}
+use Prim.Native.Nat.{ℕ, zero, suc, _+_, _*_, _-_, _<_, _≤_, min}
+use native.Mathlib.Nat.{min-eq-left, min-eq-right, min-le-left}
+use native.Mathlib.Omega.{arith}
+use lib.ListN.{length, getD, take, drop, List·getD-eq-default}
+use lib.Seq.{drop-cons}
+use lib.Dec.{ltb}
+use native.Mathlib.Numerals.{add-one}
+use borrow.Author.Tests.{lt-ltb, le-ltb, ltb-true, ltb-false}
+use Rattle.laws.specs.Tests.{split}
+use Rattle.laws.specs.Tables.{tab, length-tab, getD-tab, tab-cong}
+use Rattle.laws.specs.Lists.{joined}
+use Rattle.plan.specs.Limits.{mostTracks, mostSignals, mostRoutes, mostEntries, trackSize, releaseSize, routeSize, entrySize, tracksAt, signalsAt, routesAt, entriesAt, imageSize}
+use Rattle.plan.specs.Records.{Route, noTrack, noRoute, noEntry, trackOf, routeOf, entryOf}
+use Rattle.plan.specs.File.{releaseFile}
+use Rattle.plan.specs.Image.{countIn, listIn, thingsIn, trackIn, releaseIn, releasesIn, routeIn, entryIn, tracksIn, signalsIn, planOf, routeList}
+
+-- A count, and its limit.
+module _ (image : List ℕ) (at most : ℕ) where
+  pub count-most : countIn image at most ≤ most
+  unfolding countIn
+  count-most = min-le-left most (getD image at 0)
+
+  pub count-beyond : {n : ℕ} → n ≡ getD image at 0 → most ≤ n → most ≡ countIn image at most
+  unfolding countIn
+  count-beyond e h = sym (min-eq-left (rw e at h))
+
+  pub count-within : {n : ℕ} → n ≡ getD image at 0 → n < most → n ≡ countIn image at most
+  unfolding countIn
+  count-within {n} e h = let k : getD image at 0 ≤ most = omega arith in e ∙ sym (min-eq-right k)
+
+-- Things of one size after their count.
+module _ {A : Type 0} (thing : List ℕ → ℕ → A) (size : ℕ) (image : List ℕ) (at most : ℕ) where
+  pub things-length : length (thingsIn thing size image at most) ≡ countIn image at most
+  unfolding thingsIn
+  things-length = length-tab (countIn image at most) (λ i. thing image (at + 1 + size * i))
+
+  pub things-beyond : (i : ℕ) (none : A) → countIn image at most ≤ i → getD (thingsIn thing size image at most) i none ≡ none
+  things-beyond i none h = List·getD-eq-default (thingsIn thing size image at most) none (rw things-length h)
+
+  pub things-at : (i : ℕ) (none : A) → i < countIn image at most → getD (thingsIn thing size image at most) i none ≡ thing image (at + 1 + size * i)
+  unfolding thingsIn
+  things-at i none h = getD-tab (countIn image at most) (λ i. thing image (at + 1 + size * i)) i none h
+
+-- A list, as the part of the image that the code takes.
+pub list-part : (image : List ℕ) (at most : ℕ) {n : ℕ} → n ≡ countIn image at most → take (at + 1 + n - (at + 1)) (drop (at + 1) image) ≡ listIn image at most
+unfolding listIn
+list-part image at most {n} e = let z : at + 1 + n - (at + 1) ≡ n = omega arith in rw (z, e)
+
+two : (image : List ℕ) (b : ℕ) {l : List ℕ} → getD image b 0 ∷ (getD image (suc b) 0 ∷ l) ≡ releaseFile (releaseIn image b) ++ l
+unfolding releaseFile releaseIn
+two image b = rw (← add-one b)
+
+-- pairs of track and point, as they stand, are the releases
+pairs : (n base : ℕ) (image : List ℕ) → base + releaseSize * n ≤ length image
+    → take (releaseSize * n) (drop base image) ≡ joined releaseFile (tab n (λ i. releaseIn image (base + releaseSize * i)))
+unfolding joined tab
+pairs zero base image h = refl
+pairs (suc n) base image h =
+    let e : releaseSize * suc n ≡ suc (suc (releaseSize * n)) = omega arith in
+    let z : base + releaseSize * 0 ≡ base = omega arith in
+    let t : tab n (λ k. releaseIn image (base + releaseSize * suc k)) ≡ tab n (λ k. releaseIn image (suc (suc base) + releaseSize * k)) =
+    tab-cong n _ _ (λ k hk. ap (releaseIn image) (omega arith)) in
+    rw (e, drop-cons image base 0 (omega arith), drop-cons image (suc base) 0 (omega arith), pairs n (suc (suc base)) image (omega arith), t, z) (two image base)
+
+pub pairs-part : (image : List ℕ) (at most : ℕ) {n : ℕ} → length image ≡ imageSize → at + 1 + releaseSize * most ≤ imageSize → n ≡ countIn image at most
+    → take (at + 1 + releaseSize * n - (at + 1)) (drop (at + 1) image) ≡ joined releaseFile (releasesIn image at most)
+unfolding releasesIn thingsIn
+pairs-part image at most {n} l h e =
+    let z : at + 1 + releaseSize * n - (at + 1) ≡ releaseSize * n = omega arith in
+    let m = count-most image at most in
+    rw (z, e) (pairs (countIn image at most) (at + 1) image (omega arith))
+
+-- How many of each.
+module _ (image : List ℕ) where
+  pub tracks-count : countIn image tracksAt mostTracks ≡ length (planOf image .tracks)
+  unfolding planOf tracksIn
+  tracks-count = sym (things-length trackIn trackSize image tracksAt mostTracks)
+
+  pub routes-count : countIn image routesAt mostRoutes ≡ length (planOf image .routes)
+  unfolding planOf
+  routes-count = sym (things-length routeIn routeSize image routesAt mostRoutes)
+
+  pub entries-count : countIn image entriesAt mostEntries ≡ length (planOf image .entries)
+  unfolding planOf
+  entries-count = sym (things-length entryIn entrySize image entriesAt mostEntries)
+
+  pub homes-list : listIn image signalsAt mostSignals ≡ planOf image .signals
+  unfolding planOf signalsIn
+  homes-list = refl
+
+  pub tracks-most : length (planOf image .tracks) ≤ mostTracks
+  tracks-most = rw (← tracks-count) (count-most image tracksAt mostTracks)
+
+  pub routes-most : length (planOf image .routes) ≤ mostRoutes
+  routes-most = rw (← routes-count) (count-most image routesAt mostRoutes)
+
+  pub entries-most : length (planOf image .entries) ≤ mostEntries
+  entries-most = rw (← entries-count) (count-most image entriesAt mostEntries)
+
+-- A track, a route, an entry: what stands at its offset, and none beyond the count.
+module _ (image : List ℕ) (i : ℕ) where
+  pub track-beyond : length (planOf image .tracks) ≤ i → noTrack ≡ trackOf (planOf image) i
+  unfolding trackOf
+  track-beyond h = sym (List·getD-eq-default (planOf image .tracks) noTrack h)
+
+  pub track-at : i < length (planOf image .tracks) → trackIn image (tracksAt + 1 + trackSize * i) ≡ trackOf (planOf image) i
+  unfolding trackOf planOf tracksIn
+  track-at h = sym (things-at trackIn trackSize image tracksAt mostTracks i noTrack (rw tracks-count h))
+
+  pub route-beyond : length (planOf image .routes) ≤ i → noRoute ≡ routeOf (planOf image) i
+  unfolding routeOf
+  route-beyond h = sym (List·getD-eq-default (planOf image .routes) noRoute h)
+
+  pub route-at : i < length (planOf image .routes) → routeIn image (routesAt + 1 + routeSize * i) ≡ routeOf (planOf image) i
+  unfolding routeOf planOf
+  route-at h = sym (things-at routeIn routeSize image routesAt mostRoutes i noRoute (rw routes-count h))
+
+  pub entry-beyond : length (planOf image .entries) ≤ i → noEntry ≡ entryOf (planOf image) i
+  unfolding entryOf
+  entry-beyond h = sym (List·getD-eq-default (planOf image .entries) noEntry h)
+
+  pub entry-at : i < length (planOf image .entries) → entryIn image (entriesAt + 1 + entrySize * i) ≡ entryOf (planOf image) i
+  unfolding entryOf planOf
+  entry-at h = sym (things-at entryIn entrySize image entriesAt mostEntries i noEntry (rw entries-count h))
+
+-- A list of a route's record.
+module _ (image : List ℕ) (r at most : ℕ) where
+  pub route-list-none : length (planOf image .routes) ≤ r → routeList image r at most ≡ []
+  unfolding routeList
+  route-list-none h = rw (routes-count, le-ltb r (length (planOf image .routes)) h)
+
+  pub route-list-at : r < length (planOf image .routes) → routeList image r at most ≡ listIn image (routesAt + 1 + routeSize * r + at) most
+  unfolding routeList
+  route-list-at h = rw (routes-count, lt-ltb r (length (planOf image .routes)) h)
+
+-- a list of the route, where the record of every route that there is has it at that offset
+pub route-list : (image : List ℕ) (r at most : ℕ) (pick : Route → List ℕ) → pick noRoute ≡ [] → ((base : ℕ) → pick (routeIn image base) ≡ listIn image (base + at) most)
+    → routeList image r at most ≡ pick (routeOf (planOf image) r)
+route-list image r at most pick e f = ⊎-elim (λ h. route-list-at image r at most h ∙ sym (f (routesAt + 1 + routeSize * r)) ∙ ap pick (route-at image r h))
+    (λ h. route-list-none image r at most h ∙ sym e ∙ ap pick (route-beyond image r h)) (decide r (length (planOf image .routes)))
+  where
+    decide : (i n : ℕ) → (i < n) ⊎ (n ≤ i)
+    decide i n = elim (split (ltb i n)) [ inl w ↦ inl (ltb-true i n w) | inr w ↦ inr (ltb-false i n w) ]

@@ -1,0 +1,20 @@
+-- `plan::image::clear_of`: the list at the clear list's offset in the route's record.
+use mathlib.Core.Path.{_≡_, refl, _∙_}
+use denote.Ref.{now}
+use Rattle.plan.specs.Limits.{mostClear, clearAt}
+use Rattle.plan.specs.Records.{Route}
+use Rattle.plan.specs.Image.{routeIn}
+use Rattle.plan.proofs.View.{route-list}
+use borrow.Author.Needs.{needs}
+use Rattle.plan.proofs.image.clear_of.Statement.{statement}
+use Rattle.plan.proofs.image.clear_of.Tie as tie
+
+route-list-requires : tie.Need-route-list-requires
+route-list-requires c κs = search needs
+
+returns : tie.Need-returns
+unfolding routeIn
+returns c = c .route-list .ensures ∙ route-list (now (c .before .args .image)) (c .before .args .route) clearAt mostClear (λ (r : Route). r .clear) refl (λ base. refl)
+
+pub clear-of-spec : {M : Type 1} → statement M
+clear-of-spec = tie.close (tie.spec route-list-requires returns)

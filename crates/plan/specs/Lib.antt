@@ -1,0 +1,5 @@
+pub mod Limits
+pub mod Records
+pub mod Reading
+pub mod File
+pub mod Image
