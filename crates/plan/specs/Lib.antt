@@ -1,5 +1,6 @@
 pub mod Limits
 pub mod Records
+pub mod Layout
 pub mod Reading
 pub mod File
 pub mod Image
