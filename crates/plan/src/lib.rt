@@ -1,6 +1,7 @@
 // The plan file and the plan in memory.
 pub mod image;
 pub mod limits;
+mod scan;
 
 // A track: its kind (0 plain, 1 facing point, 2 trailing point, 3 exit) and three numbers. A plain track has its next track; a facing
 // point its normal and its reverse way out; a trailing point its next track, its normal and its reverse leg. What is not used is 0.
