@@ -1,7 +1,1 @@
-pub mod Lists
-pub mod Meaning
-pub mod Scanned
-pub mod Sections
-pub mod Sound
 pub mod View
-pub mod Whole

@@ -15,9 +15,8 @@ use Rattle.laws.specs.Tests.{split}
 use Rattle.laws.specs.Tables.{tab, length-tab, getD-tab, tab-cong}
 use Rattle.laws.specs.Lists.{joined}
 use Rattle.plan.specs.declared.Track.{Track}
-use Rattle.plan.specs.Reading.{uses, limitOf}
 use Rattle.plan.specs.Limits.{mostTracks, mostSignals, mostRoutes, mostEntries, trackSize, releaseSize, routeSize, entrySize, tracksAt, signalsAt, routesAt, entriesAt, imageSize}
-use Rattle.plan.specs.Records.{facing, trailing, exit, Plan, Route, isPoint, noTrack, noRoute, noEntry, trackOf, routeOf, entryOf}
+use Rattle.plan.specs.Records.{facing, trailing, Plan, Route, isPoint, noTrack, noRoute, noEntry, trackOf, routeOf, entryOf}
 use Rattle.plan.specs.File.{releaseFile}
 use Rattle.plan.specs.Image.{countIn, listIn, thingsIn, trackIn, releaseIn, releasesIn, routeIn, entryIn, tracksIn, signalsIn, planOf, routeList}
 
@@ -158,17 +157,3 @@ module _ (p : Plan) (u : ℕ) {t : Track} (e : t ≡ trackOf p u) where
   pub point-trailing : (t .kind ≡ facing → ⊥) → eqb (t .kind) trailing ≡ isPoint (p .tracks) u
   unfolding trackOf isPoint
   point-trailing h = rw (← e, ne-eqb _ _ h)
-
--- The limit of a track's number, by its kind.
-module _ (tracks kind i : ℕ) where
-  pub limit-exit : kind ≡ exit → 1 ≡ limitOf tracks kind i
-  unfolding limitOf uses
-  limit-exit h = rw (eq-eqb kind exit h, le-ltb i 0 (omega arith))
-
-  pub limit-used : (kind ≡ exit → ⊥) → i < kind + 1 → tracks ≡ limitOf tracks kind i
-  unfolding limitOf uses
-  limit-used h k = rw (ne-eqb kind exit h, lt-ltb i (kind + 1) k)
-
-  pub limit-unused : (kind ≡ exit → ⊥) → kind + 1 ≤ i → 1 ≡ limitOf tracks kind i
-  unfolding limitOf uses
-  limit-unused h k = rw (ne-eqb kind exit h, le-ltb i (kind + 1) k)

@@ -8,8 +8,7 @@ use Rattle.laws.specs.Lists.{All, joined}
 use Rattle.plan.specs.declared.Track.{Track}
 use Rattle.plan.specs.declared.Release.{Release}
 use Rattle.plan.specs.Limits.{leastTracks, mostTracks, mostSignals, mostRoutes, mostEntries, leastPath, mostPath, mostClear, mostPoints, mostReleases}
-use Rattle.plan.specs.Records.{exit, Route, Entry, Plan, isPoint}
-use Rattle.plan.specs.Reading.{limitOf}
+use Rattle.plan.specs.Records.{exit, Route, Entry, Plan, isPoint, limitOf}
 
 -- The file of a plan.
 

@@ -10,7 +10,6 @@ use Rattle.plan.specs.declared.Track.{Track}
 use Rattle.plan.specs.declared.Release.{Release}
 use Rattle.plan.specs.Limits.{mostTracks, mostSignals, mostRoutes, mostEntries, mostPath, mostClear, mostPoints, mostReleases, trackSize, releaseSize, pathAt, clearAt, normalAt, reverseAt, releasesAt, routeSize, entryClearAt, entrySize, tracksAt, signalsAt, routesAt, entriesAt}
 use Rattle.plan.specs.Records.{Route, Entry, Plan}
-use Rattle.plan.specs.Reading.{Got, form, got}
 use Rattle.plan.specs.File.{trackFile, releaseFile}
 
 -- The image of a plan.
@@ -89,11 +88,6 @@ planOf image = record {
   routes = thingsIn routeIn routeSize image routesAt mostRoutes;
   entries = thingsIn entryIn entrySize image entriesAt mostEntries;
 }
-
--- What lent memory holds after reading: the plan's image, or, where the file was refused, what it held.
-unfoldable pub afterReading : Got Plan → List ℕ → List ℕ
-afterReading (form f) old = old
-afterReading (got p at rest) old = imageOf p
 
 -- The list at an offset of a route's record, as the code hands it on; a route that there isn't has none.
 unfoldable pub routeList : List ℕ → ℕ → ℕ → ℕ → List ℕ

@@ -1,6 +1,5 @@
 pub mod Limits
 pub mod Records
 pub mod Layout
-pub mod Reading
 pub mod File
 pub mod Image

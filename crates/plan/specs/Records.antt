@@ -3,7 +3,7 @@ use Prim.Native.Nat.{ℕ, _+_}
 use mathlib.Core.Bool.{Bool, true, false, cond}
 use mathlib.Core.List.{List, []}
 use lib.ListN.{getD}
-use lib.Dec.{eqb}
+use lib.Dec.{eqb, ltb}
 use Rattle.plan.specs.declared.Track.{Track}
 use Rattle.plan.specs.declared.Release.{Release}
 
@@ -69,3 +69,11 @@ routeOf p r = getD (p .routes) r noRoute
 
 unfoldable pub entryOf : Plan → ℕ → Entry
 entryOf p e = getD (p .entries) e noEntry
+
+-- how many of its three numbers a kind uses: a plain track one, a facing point two, a trailing point three, an exit none
+unfoldable pub uses : ℕ → ℕ
+uses kind = cond (eqb kind exit) 0 (kind + 1)
+
+-- the i-th number names a track where the kind uses it, and else is 0
+unfoldable pub limitOf : ℕ → ℕ → ℕ → ℕ
+limitOf tracks kind i = cond (ltb i (uses kind)) tracks 1

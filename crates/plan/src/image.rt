@@ -28,7 +28,7 @@ ghost use Prim.Native.Nat.{_+_, _*_, _<_, _≤_};
 ghost use lib.ListN.{length, getD};
 ghost use Rattle.plan.specs.Limits.{imageSize, releaseSize, routeSize};
 ghost use mathlib.Core.List.{[]};
-ghost use Rattle.plan.specs.Records.{trackOf, routeOf, entryOf};
+ghost use Rattle.plan.specs.Records.{isPoint, trackOf, routeOf, entryOf};
 ghost use Rattle.plan.specs.File.{releaseFile};
 ghost use Rattle.plan.specs.Image.{countIn, listIn, releasesIn, planOf, routeList};
 ghost use Rattle.laws.specs.Lists.{joined};
@@ -215,4 +215,15 @@ pub fn entry_clear(image: &[u8; IMAGE], entry: usize) -> &[u8]
         ENTRIES_AT + 1 + ENTRY_SIZE * entry + ENTRY_CLEAR_AT,
         CLEAR,
     )
+}
+
+// Whether a number names a point of the plan whose tracks are in the image.
+pub fn is_point(image: &[u8; IMAGE], track: usize) -> bool
+    ensures { λ r. ⌜ r ≡ isPoint (planOf (now (image .entry)) .tracks) track ⌝ }
+{
+    let found = track_of(image, track);
+    if found.kind == 1 {
+        return true;
+    }
+    found.kind == 2
 }

@@ -1,7 +1,6 @@
 // The plan file and the plan in memory.
 pub mod image;
 pub mod limits;
-mod scan;
 
 // A track: its kind (0 plain, 1 facing point, 2 trailing point, 3 exit) and three numbers. A plain track has its next track; a facing
 // point its normal and its reverse way out; a trailing point its next track, its normal and its reverse leg. What is not used is 0.
@@ -16,19 +15,4 @@ pub struct Track {
 pub struct Release {
     pub track: u8,
     pub point: u8,
-}
-
-// Why a file is no plan: one case for each number of the document's table, with the offset.
-pub enum Form {
-    EndsEarly(usize),
-    BadCount(usize),
-    BadNumber(usize),
-    NotRising(usize),
-    LeftOver(usize),
-}
-
-// How far reading came: to the offset of the next byte, or to a form.
-pub enum Seen {
-    Next(usize),
-    Refused(Form),
 }

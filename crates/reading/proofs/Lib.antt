@@ -1,0 +1,6 @@
+pub mod Lists
+pub mod Meaning
+pub mod Scanned
+pub mod Sections
+pub mod Sound
+pub mod Whole
