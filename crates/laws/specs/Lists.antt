@@ -24,6 +24,18 @@ all-at ok [] i d w h = absurd (not-suc-le-zero h)
 all-at ok (a ∷ l) zero d w h = w .0
 all-at ok (a ∷ l) (suc i) d w h = all-at ok l i d (w .1) (omega arith)
 
+-- What holds of everything holds of each element, and what follows from it too.
+
+pub all-every : {A : Type 0} {P : A → Type 0} → ((a : A) → P a) → (l : List A) → All P l
+unfolding All
+all-every h [] = tt
+all-every h (a ∷ l) = (h a, all-every h l)
+
+pub all-map : {A : Type 0} {P Q : A → Type 0} → ((a : A) → P a → Q a) → (l : List A) → All P l → All Q l
+unfolding All
+all-map h [] s = tt
+all-map h (a ∷ l) s = (h a (s .0), all-map h l (s .1))
+
 -- the bytes of each element, in the list's order
 unfoldable pub joined {ℓ κ} : {A : Type ℓ} {B : Type κ} → (A → List B) → List A → List B
 joined f [] = []

@@ -216,7 +216,7 @@ module _ {A B : Type 0} (reader : Reader A) (k : A → Reader B) (file : List �
   unfolding scanned andThen
   then-refused e = rw e
 
-  then-passed : {a : A} {p : ℕ} → reader at (drop at file) ≡ got a p (drop p file) → scanned (k a) file p ≡ scanned (andThen reader k) file at
+  pub then-passed : {a : A} {p : ℕ} → reader at (drop at file) ≡ got a p (drop p file) → scanned (k a) file p ≡ scanned (andThen reader k) file at
   unfolding scanned andThen
   then-passed e = rw e
 

@@ -22,7 +22,7 @@ unfolding pathList counted
 path-sound tracks = as-sound (free-sound (λ k u. u < tracks) leastPath mostPath (λ k. below-sound tracks) (λ k u. (λ h. h .0, λ h. (h, omega arith)))) (omega arith)
     (λ l ok. (ok, list-file l)) (λ l ok. ok)
 
-rising-list-sound : (tracks most : ℕ) → Sound listFile (λ l. Within 0 most (λ u. u < tracks) l × Rises l) (1 + most) (risingList tracks most)
+pub rising-list-sound : (tracks most : ℕ) → Sound listFile (λ l. Within 0 most (λ u. u < tracks) l × Rises l) (1 + most) (risingList tracks most)
 unfolding risingList
 rising-list-sound tracks most = rising-numbers _ most (below-sound tracks)
 
@@ -41,7 +41,7 @@ track-sound tracks = as-sound
     (λ t ok. (search arith, refl))
     (λ t ok. search arith)
 
-track-section-sound : Sound (countedFile trackFile) (λ l. Within leastTracks mostTracks (ReadableTrack (length l)) l) (1 + mostTracks * trackSize) trackSection
+pub track-section-sound : Sound (countedFile trackFile) (λ l. Within leastTracks mostTracks (ReadableTrack (length l)) l) (1 + mostTracks * trackSize) trackSection
 unfolding trackSection
 track-section-sound = free-sound ReadableTrack leastTracks mostTracks (λ k from. track-sound k) (λ k t. (λ h. h, λ h. h))
 
@@ -81,14 +81,23 @@ entry-sound tracks least = as-sound
     (λ e ok. (search arith, refl))
     (λ e ok. search arith)
 
+pub route-section-sound : (tracks : List Track) (signals : ℕ) →
+    Sound (countedFile routeFile) (Within 0 mostRoutes (ReadableRoute tracks signals)) (1 + mostRoutes * routeSize) (routeSection tracks signals)
+unfolding routeSection counted
+route-section-sound tracks signals = free-sound (λ k. ReadableRoute tracks signals) 0 mostRoutes (λ k from. route-sound tracks signals) (λ k r. (λ h. h, λ h. h))
+
+pub entry-section-sound : (tracks : ℕ) →
+    Sound (countedFile entryFile) (λ l. Within 0 mostEntries (ReadableEntry tracks) l × Rises (map (λ e. e .track) l)) (1 + mostEntries * entrySize) (entrySection tracks)
+unfolding entrySection
+entry-section-sound tracks = rising-sound (ReadableEntry tracks) (λ e. e .track) mostEntries (entry-sound tracks)
+
 pub sections-sound : Sound fileOf Readable imageSize sections
-unfolding sections signalSection routeSection entrySection counted fileOf
+unfolding sections signalSection fileOf
 sections-sound = as-sound
     (then-sound (λ p. p .tracks) (λ a p ok. cc) track-section-sound λ tracks.
     then-sound (λ p. p .signals) (λ a p ok. cc) (rising-list-sound (length tracks) mostSignals) λ signals.
-    then-sound (λ p. p .routes) (λ a p ok. cc) (free-sound (λ k. ReadableRoute tracks (length signals)) 0 mostRoutes (λ k from. route-sound tracks (length signals)) (λ k r. (λ h. h, λ h. h))) λ routes.
-    last-sound (λ p. p .entries) (λ entries. record { tracks = tracks; signals = signals; routes = routes; entries = entries }) (λ a. refl)
-    (rising-sound (ReadableEntry (length tracks)) (λ e. e .track) mostEntries (entry-sound (length tracks))))
+    then-sound (λ p. p .routes) (λ a p ok. cc) (route-section-sound tracks (length signals)) λ routes.
+    last-sound (λ p. p .entries) (λ entries. record { tracks = tracks; signals = signals; routes = routes; entries = entries }) (λ a. refl) (entry-section-sound (length tracks)))
     (omega arith)
     (λ p ok. (search arith, refl))
     (λ p ok. search arith)

@@ -10,7 +10,7 @@ use native.Mathlib.Omega.{arith}
 use lib.ListN.{length, length-append}
 use lib.Dec.{ltb}
 use borrow.Author.Tests.{ltb-false, le-ltb}
-use Rattle.laws.specs.Tests.{Is, split}
+use Rattle.laws.specs.Tests.{Is, split, never}
 use Rattle.reading.specs.declared.Form.{Form}
 use Rattle.reading.specs.declared.Form.the-variants.{EndsEarly, BadCount, BadNumber, NotRising}
 use Rattle.reading.specs.Reading.{formNumber, formOffset, form, got, Reader, andThen, done, number, count}
@@ -33,6 +33,20 @@ pub record Sound {A : Type 0} (file : A → List ℕ) (Ok : A → Type 0) (most 
   pub fits : (a : A) → Ok a → length (file a) ≤ most
   pub forth : (a : A) → Ok a → (at : ℕ) (rest : List ℕ) → reader at (file a ++ rest) ≡ got a (at + length (file a)) rest
   pub cases : (at : ℕ) (s : List ℕ) → Case file Ok most reader at s
+
+-- What a sound reader gives is allowed, and stands before what is left.
+pub sound-got : {A : Type 0} {file : A → List ℕ} {Ok : A → Type 0} {most : ℕ} {reader : Reader A} → Sound file Ok most reader → (at : ℕ) (s : List ℕ) {a : A} {next : ℕ} {rest : List ℕ} →
+    reader at s ≡ got a next rest → Ok a × (s ≡ file a ++ rest)
+sound-got {A} {file} {Ok} {most} {reader} sound at s {a} {next} {rest} e = go (sound .cases at s)
+  where
+    go : Case file Ok most reader at s → Ok a × (s ≡ file a ++ rest)
+    go (reads b left ok z) =
+        let f : reader at s ≡ got b (at + length (file b)) left = rw z (sound .forth b ok at left) in
+        let same : b ≡ a = cc in
+        let left-same : left ≡ rest = cc in
+        rw (← same, ← left-same) (ok, z)
+    go (short h f) = never (cc)
+    go (bad f before byte after z h refusal steady) = never (let w : reader at s ≡ form f = rw z (steady after) in cc)
 
 -- One byte.
 

@@ -97,7 +97,7 @@ fn path_list(file: &[u8], from: usize, tracks: usize) -> Seen
 }
 
 // A list of tracks that rises strictly.
-fn rising_list(file: &[u8], from: usize, tracks: usize, most: usize) -> Seen
+pub fn rising_list(file: &[u8], from: usize, tracks: usize, most: usize) -> Seen
     ensures { λ r. ⌜ r ≡ scanned (risingList tracks most) (now (file .entry)) from ⌝ }
 {
     let counted = count_of(file, from, 0, most);
