@@ -1,11 +1,4 @@
 pub mod Copying
 pub mod Filling
-pub mod Lists
-pub mod Meaning
-pub mod Scanned
-pub mod Sections
-pub mod Slips
-pub mod Sound
 pub mod Steps
 pub mod Stored
-pub mod Whole

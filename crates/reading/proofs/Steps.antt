@@ -13,15 +13,15 @@ use Rattle.plan.specs.Records.{Route, Entry, Plan}
 use Rattle.plan.specs.File.{trackFile, countedFile, listFile, routeFile, entryFile, Within, Rises, ReadableTrack, ReadableRoute, ReadableEntry}
 use Rattle.plan.specs.Image.{imageOf, planOf}
 use Rattle.plan.proofs.Shown.{tracks-shown, signals-shown}
-use Rattle.reading.specs.declared.Form.{Form}
-use Rattle.reading.specs.declared.Form.the-variants.{LeftOver}
-use Rattle.reading.specs.declared.Seen.{Seen}
-use Rattle.reading.specs.declared.Seen.the-variants.{Next, Refused}
-use Rattle.reading.specs.Reading.{Got, form, got, nothingLeft, risingList, trackSection, signalSection, routeSection, entrySection, sections, parse, seen, scanned, afterReading, andThen, done}
-use Rattle.reading.specs.Storing.{copyList, copyRoutes, copyEntries, ListRoom, RoutesRoom, EntriesRoom}
-use Rattle.reading.proofs.Sound.{sound-got}
-use Rattle.reading.proofs.Sections.{track-section-sound, rising-list-sound, route-section-sound, entry-section-sound}
-use Rattle.reading.proofs.Scanned.{passed, then-stop, then-passed, then-last, tracks-steady, rising-steady, routes-steady, entries-steady}
+use Rattle.scan.specs.declared.Form.{Form}
+use Rattle.scan.specs.declared.Form.the-variants.{LeftOver}
+use Rattle.scan.specs.declared.Seen.{Seen}
+use Rattle.scan.specs.declared.Seen.the-variants.{Next, Refused}
+use Rattle.scan.specs.Reading.{Got, form, got, nothingLeft, risingList, trackSection, signalSection, routeSection, entrySection, sections, parse, seen, scanned, andThen, done}
+use Rattle.reading.specs.Storing.{afterReading, copyList, copyRoutes, copyEntries, ListRoom, RoutesRoom, EntriesRoom}
+use Rattle.scan.proofs.Sound.{sound-got}
+use Rattle.scan.proofs.Sections.{track-section-sound, rising-list-sound, route-section-sound, entry-section-sound}
+use Rattle.scan.proofs.Scanned.{passed, then-stop, then-passed, then-last, tracks-steady, rising-steady, routes-steady, entries-steady}
 use Rattle.reading.proofs.Stored as stored
 
 -- What the image shows after the tracks, and after the signals.

@@ -3,6 +3,9 @@ use Prim.Native.Nat.{ℕ, zero, suc, _+_, _*_, _<_, _≤_}
 use mathlib.Core.List.{List}
 use lib.ListN.{length, getD, take, drop, set}
 use lib.Seq.{sets}
+use Rattle.plan.specs.Records.{Plan}
+use Rattle.plan.specs.Image.{imageOf}
+use Rattle.scan.specs.Reading.{Got, form, got}
 use Rattle.plan.specs.Limits.{releaseSize, pathAt, clearAt, normalAt, reverseAt, releasesAt, routeSize, entryClearAt, entrySize, routesAt, entriesAt, imageSize}
 
 -- things of one size with their count before them: where they end, and the image with them copied to a place
@@ -98,3 +101,8 @@ RoutesRoom file at = CountedRoom routePart file at routesAt
 
 abbrev pub EntriesRoom : List ℕ → ℕ → Type 0
 EntriesRoom file at = CountedRoom entryPart file at entriesAt
+
+-- What lent memory holds after reading: the plan's image, or, where the file was refused, what it held.
+unfoldable pub afterReading : Got Plan → List ℕ → List ℕ
+afterReading (form f) old = old
+afterReading (got p at rest) old = imageOf p

@@ -1,5 +1,4 @@
 // Reading a plan file into the plan's image, with the answers 1 to 5.
-mod scan;
 mod store;
 
 use plan::image::tracks;
@@ -8,6 +7,8 @@ use plan::limits::SIGNALS;
 use plan::limits::SIGNALS_AT;
 use plan::limits::TRACK_SIZE;
 use plan::limits::TRACKS_AT;
+use scan::Form;
+use scan::Seen;
 use scan::entry_section;
 use scan::rising_list;
 use scan::route_section;
@@ -16,22 +17,8 @@ use store::store_entries;
 use store::store_list;
 use store::store_routes;
 ghost use mathlib.Core.Path.{_≡_};
-ghost use Rattle.reading.specs.Reading.{afterReading, parse, seen};
-
-// Why a file is no plan: one case for each number of the document's table, with the offset.
-pub enum Form {
-    EndsEarly(usize),
-    BadCount(usize),
-    BadNumber(usize),
-    NotRising(usize),
-    LeftOver(usize),
-}
-
-// How far reading came: to the offset of the next byte, or to a form.
-pub enum Seen {
-    Next(usize),
-    Refused(Form),
-}
+ghost use Rattle.scan.specs.Reading.{parse, seen};
+ghost use Rattle.reading.specs.Storing.{afterReading};
 
 // Reads a plan: what the file gives, and, where it is a plan, its image. A refusal leaves the lent image as it was.
 pub fn read(file: &[u8], image: &mut [u8; IMAGE]) -> Seen

@@ -1,0 +1,7 @@
+pub mod Lists
+pub mod Meaning
+pub mod Scanned
+pub mod Sections
+pub mod Slips
+pub mod Sound
+pub mod Whole

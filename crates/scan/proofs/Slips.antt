@@ -1,0 +1,68 @@
+-- The bench plan and the starred form slips of document 01, computed from the definitions in one claim: each file, and what reading gives.
+use mathlib.Core.Path.{_≡_, refl}
+use Prim.Native.Nat.{ℕ}
+use mathlib.Core.List.{List, [], _∷_, _++_, map}
+use lib.ListN.{length, take, set}
+use Rattle.plan.specs.Records.{plain, trailing, exit, Plan, isPoint, uses, limitOf}
+use Rattle.scan.specs.declared.Form.the-variants.{EndsEarly, BadCount, BadNumber, NotRising, LeftOver}
+use Rattle.scan.specs.Reading.{Got, form, got, andThen, done, number, count, many, counted, pathList, risingList, pointList, track, trackSection, signalSection, release, releaseList, route, routeSection, entry, entrySection, sections, parse}
+
+-- byte by byte
+bench : List ℕ
+bench =
+    (4 ∷ 0 ∷ 2 ∷ 0 ∷ 0 ∷ 0 ∷ 2 ∷ 0 ∷ 0 ∷ 2 ∷ 3 ∷ 0 ∷ 1 ∷ 3 ∷ 0 ∷ 0 ∷ 0 ∷ [])
+    ++ ((2 ∷ 0 ∷ 1 ∷ [])
+    ++ ((2 ∷ 0 ∷ 2 ∷ 2 ∷ 3 ∷ 2 ∷ 2 ∷ 3 ∷ 1 ∷ 2 ∷ 0 ∷ 1 ∷ 3 ∷ 2 ∷ 1 ∷ 2 ∷ 2 ∷ 3 ∷ 2 ∷ 2 ∷ 3 ∷ 0 ∷ 1 ∷ 2 ∷ 1 ∷ 3 ∷ 2 ∷ []) ++ (2 ∷ 0 ∷ 1 ∷ 0 ∷ 1 ∷ 1 ∷ 1 ∷ [])))
+
+-- as one would write it by hand: two lines merge
+benchPlan : Plan
+benchPlan = record {
+  tracks = record { kind = plain; first = 2; second = 0; third = 0 }
+      ∷ record { kind = plain; first = 2; second = 0; third = 0 }
+      ∷ record { kind = trailing; first = 3; second = 0; third = 1 }
+      ∷ record { kind = exit; first = 0; second = 0; third = 0 }
+      ∷ [];
+  signals = 0 ∷ 1 ∷ [];
+  routes = record { start = 0; path = 2 ∷ 3 ∷ []; clear = 2 ∷ 3 ∷ []; normal = 2 ∷ []; reverse = []; releases = record { track = 3; point = 2 } ∷ [] }
+      ∷ record { start = 1; path = 2 ∷ 3 ∷ []; clear = 2 ∷ 3 ∷ []; normal = []; reverse = 2 ∷ []; releases = record { track = 3; point = 2 } ∷ [] }
+      ∷ [];
+  entries = record { track = 0; clear = 0 ∷ [] } ∷ record { track = 1; clear = 1 ∷ [] } ∷ [];
+}
+
+-- a file, and what reading it gives
+pub record Row : Type 0 where
+  pub file : List ℕ
+  pub gives : Got Plan
+
+row : List ℕ → Got Plan → Row
+row file gives = record { file = file; gives = gives }
+
+-- one exit, and no signals, routes or entries; and a route and an entry whose lists are empty where they may be: both read
+lonePlan : Plan
+lonePlan = record { tracks = record { kind = exit; first = 0; second = 0; third = 0 } ∷ []; signals = []; routes = []; entries = [] }
+
+barePlan : Plan
+barePlan = record {
+  tracks = record { kind = plain; first = 0; second = 0; third = 0 } ∷ [];
+  signals = 0 ∷ [];
+  routes = record { start = 0; path = 0 ∷ []; clear = []; normal = []; reverse = []; releases = [] } ∷ [];
+  entries = record { track = 0; clear = [] } ∷ [];
+}
+
+table : List Row
+table =
+    row bench (got benchPlan 54 [])
+    ∷ row [] (form (EndsEarly 0))
+    ∷ row (0 ∷ []) (form (BadCount 0))
+    ∷ row (take 53 bench) (form (EndsEarly 53))
+    ∷ row (bench ++ (0 ∷ [])) (form (LeftOver 54))
+    ∷ row (set bench 1 4) (form (BadNumber 1))
+    ∷ row (set bench 29 0) (form (BadNumber 29))
+    ∷ row (set (set bench 26 3) 27 2) (form (NotRising 27))
+    ∷ row (1 ∷ 3 ∷ 0 ∷ 0 ∷ 0 ∷ 0 ∷ 0 ∷ 0 ∷ []) (got lonePlan 8 [])
+    ∷ row (1 ∷ 0 ∷ 0 ∷ 0 ∷ 0 ∷ 1 ∷ 0 ∷ 1 ∷ 0 ∷ 1 ∷ 0 ∷ 0 ∷ 0 ∷ 0 ∷ 0 ∷ 1 ∷ 0 ∷ 0 ∷ []) (got barePlan 18 [])
+    ∷ []
+
+slips : map (λ r. parse (r .file)) table ≡ map (λ r. r .gives) table
+unfolding bench benchPlan lonePlan barePlan row table parse sections trackSection signalSection routeSection entrySection track release releaseList route entry pathList risingList pointList counted many number count andThen done isPoint uses limitOf
+slips = refl
