@@ -5,9 +5,6 @@ use Rattle.plan.proofs.View.{count-most, list-part}
 use borrow.Author.Needs.{needs}
 use Rattle.plan.proofs.image.list_at.Statement.{statement}
 use Rattle.plan.proofs.image.list_at.Tie as tie
-use Rattle.plan.proofs.image.list_at.Reads as reads
-use Rattle.plan.proofs.image.list_at.Lts as lts
-use Rattle.plan.proofs.image.count_at.Reads as count-at-reads
 
 count-at-requires : tie.Need-count-at-requires
 count-at-requires c κs = search needs

@@ -1,0 +1,7 @@
+pub mod Bytes
+pub mod Facts
+pub mod Reflect
+pub mod Given
+pub mod Views
+pub mod Kept
+pub mod Agree

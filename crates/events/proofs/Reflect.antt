@@ -1,0 +1,263 @@
+-- Each test says what its sentence says.
+use mathlib.Core.Path.{_≡_, refl, sym, ap, _∙_}
+use mathlib.Core.Bool.{Bool, true, false, not, cond, _&&_, _||_}
+use mathlib.Core.Logic.{_≢_, _⊎_, inl, inr}
+use mathlib.Core.List.{List}
+use Prim.Native.Nat.{ℕ, suc, _<_, _≤_}
+use native.Mathlib.Omega.{arith}
+use lib.ListN.{length, getD}
+use lib.Dec.{eqb, ltb}
+use borrow.Author.Tests.{eqb-true, eqb-false, eq-eqb, ne-eqb}
+use Rattle.laws.specs.declared.Found.{Found}
+use Rattle.laws.specs.declared.Found.the-variants.{At, Nothing}
+use Rattle.laws.specs.Tests.{Is, split, never, clash, below?, same?, and-l, and-r, and-i, or-e, or-l, or-r, not-t, not-f, not-i, cond-t, cond-f}
+use Rattle.laws.specs.Lists.{In, has, has-in, in-has}
+use Rattle.laws.specs.Search.{lowest, Lowest, lowest-at, lowest-none, at-lowest, none-lowest}
+use Rattle.laws.specs.Sets.{member}
+use Rattle.plan.specs.Records.{Plan, homeOf, routeOf, entryOf}
+use Rattle.plan.specs.Layout.{legged, out, leg, signalAt}
+use Rattle.plan.specs.File.{Readable}
+use Rattle.state.specs.declared.State.{State}
+use Rattle.state.specs.Holds.{empty}
+use Rattle.state.specs.State.{noTrain, normalLie, reverseLie, red, greenFor, trainAt, lieAt, heldBy, shownAt, HasTrain, Holds, WellFormed}
+use Rattle.state.proofs.Holds.{some-member, member-some}
+use Rattle.events.specs.Decide.{hasTrain, isRed, isGreen, isReverse, busy, listed, heldListed, lieAfter, derails, stands, frontOf, inPlan, isFound, ifRed, redAt, wayOut, runsThrough}
+use Rattle.events.specs.Meaning.{None, LowestSuch, Listed, StandsAt, Busy, HeldListed, OtherLie, Derails, FrontAt, InPlan, RedAt, Next, RunsThrough}
+use Rattle.events.proofs.Facts.{one-signal}
+
+-- what is not so fails the test
+pub fails : (b : Bool) {A : Type 0} → (Is b → A) → (A → ⊥) → b ≡ false
+fails true h k = absurd (k (h refl))
+fails false h k = refl
+
+-- A search over a test that tells what is so finds the lowest that is so.
+pub record Tells (n : ℕ) (f : ℕ → Bool) (Such : ℕ → Type 0) : Type 0 where
+  pub says : (x : ℕ) → Is (f x) → Such x
+  pub hears : (x : ℕ) → Such x → Is (f x)
+  pub inside : (x : ℕ) → Such x → x < n
+
+module _ {n : ℕ} {f : ℕ → Bool} {Such : ℕ → Type 0} (t : Tells n f Such) where
+  pub search-at : {x : ℕ} → lowest n f ≡ At x → LowestSuch Such x
+  search-at {x} e = let l = lowest-at n f e in record { such = t .says x (l .passes); noLower = λ y h s. clash (t .hears y s) (l .first y h) }
+
+  pub search-none : lowest n f ≡ Nothing → None Such
+  search-none e x s = clash (t .hears x s) (lowest-none n f e x (t .inside x s))
+
+  pub at-search : {x : ℕ} → LowestSuch Such x → lowest n f ≡ At x
+  at-search {x} l = at-lowest n f (record {
+    below = t .inside x (l .such);
+    passes = t .hears x (l .such);
+    first = λ y h. fails (f y) (t .says y) (l .noLower y h);
+  })
+
+  pub none-search : None Such → lowest n f ≡ Nothing
+  none-search h = none-lowest n f (λ x k. fails (f x) (t .says x) (h x))
+
+-- Cells.
+module _ (σ : State) where
+  pub train-says : (u : ℕ) → Is (hasTrain (σ .trains) u) → HasTrain σ u
+  unfolding hasTrain trainAt
+  train-says u e = eqb-false (getD (σ .trains) u 0) 0 (not-t _ e)
+
+  pub train-hears : (u : ℕ) → HasTrain σ u → Is (hasTrain (σ .trains) u)
+  unfolding hasTrain trainAt
+  train-hears u h = not-i _ (ne-eqb (getD (σ .trains) u 0) 0 h)
+
+  pub red-says : (s : ℕ) → Is (isRed (σ .signals) s) → shownAt σ s ≡ red
+  unfolding isRed shownAt
+  red-says s e = eqb-true (getD (σ .signals) s 0) 0 e
+
+  pub red-hears : (s : ℕ) → shownAt σ s ≡ red → Is (isRed (σ .signals) s)
+  unfolding isRed shownAt
+  red-hears s e = eq-eqb (getD (σ .signals) s 0) 0 e
+
+  pub green-says : (s r : ℕ) → Is (isGreen (σ .signals) s r) → shownAt σ s ≡ greenFor r
+  unfolding isGreen shownAt
+  green-says s r e = eqb-true (getD (σ .signals) s 0) (suc r) e
+
+  pub green-hears : (s r : ℕ) → shownAt σ s ≡ greenFor r → Is (isGreen (σ .signals) s r)
+  unfolding isGreen shownAt
+  green-hears s r e = eq-eqb (getD (σ .signals) s 0) (suc r) e
+
+  pub reverse-true : (q : ℕ) → lieAt σ q ≡ reverseLie → isReverse (σ .lies) q ≡ true
+  unfolding isReverse lieAt
+  reverse-true q e = eq-eqb (getD (σ .lies) q 0) 1 e
+
+  pub reverse-false : (q : ℕ) → lieAt σ q ≡ normalLie → isReverse (σ .lies) q ≡ false
+  unfolding isReverse lieAt
+  reverse-false q e = ne-eqb (getD (σ .lies) q 0) 1 (λ z. omega arith)
+
+-- Lists.
+pub listed-says : (normal reverse : List ℕ) (q : ℕ) → Is (listed normal reverse q) → In q normal ⊎ In q reverse
+unfolding listed
+listed-says normal reverse q e = elim (or-e (has q normal) (has q reverse) e) [ inl m ↦ inl (has-in q normal m) | inr m ↦ inr (has-in q reverse m) ]
+
+pub listed-hears : (normal reverse : List ℕ) (q : ℕ) → In q normal ⊎ In q reverse → Is (listed normal reverse q)
+unfolding listed
+listed-hears normal reverse q (inl m) = or-l (has q normal) (has q reverse) (in-has q normal m)
+listed-hears normal reverse q (inr m) = or-r (has q normal) (has q reverse) (in-has q reverse m)
+
+module _ (p : Plan) (σ : State) where
+  pub busy-tells : (clear : List ℕ) (n : ℕ) → ((u : ℕ) → In u clear → u < n) → Tells n (busy clear (σ .trains)) (Busy p σ clear)
+  unfolding busy
+  busy-tells clear n h = record {
+    says = λ u e. (has-in u clear (and-r (hasTrain (σ .trains) u) (has u clear) e), train-says σ u (and-l (hasTrain (σ .trains) u) (has u clear) e));
+    hears = λ u s. and-i _ _ (train-hears σ u (s .1)) (in-has u clear (s .0));
+    inside = λ u s. h u (s .0);
+  }
+
+  module _ (r n : ℕ) (h : (q : ℕ) → Listed p r q → q < n) where
+    pub held-tells : Tells n (heldListed (routeOf p r .normal) (routeOf p r .reverse) (σ .holds)) (HeldListed p σ r)
+    unfolding heldListed empty heldBy
+    held-tells = record {
+      says = λ q e. (
+        listed-says (routeOf p r .normal) (routeOf p r .reverse) q (and-r (not (eqb (getD (σ .holds) q 0) 0)) (listed (routeOf p r .normal) (routeOf p r .reverse) q) e),
+        some-member (getD (σ .holds) q 0) (eqb-false _ 0 (not-t _ (and-l (not (eqb (getD (σ .holds) q 0) 0)) (listed (routeOf p r .normal) (routeOf p r .reverse) q) e))),
+      );
+      hears = λ q s. and-i _ _ (not-i _ (ne-eqb _ 0 (member-some _ (s .1 .0) (s .1 .1)))) (listed-hears (routeOf p r .normal) (routeOf p r .reverse) q (s .0));
+      inside = λ q s. h q (s .0);
+    }
+
+    other-says : (q : ℕ) → lieAfter (routeOf p r .normal) (routeOf p r .reverse) (σ .lies) q ≢ lieAt σ q → OtherLie p σ r q
+    unfolding lieAfter lieAt
+    other-says q d = go (split (has q (routeOf p r .reverse))) (split (has q (routeOf p r .normal)))
+      where
+        go : (has q (routeOf p r .reverse) ≡ true) ⊎ (has q (routeOf p r .reverse) ≡ false) → (has q (routeOf p r .normal) ≡ true) ⊎ (has q (routeOf p r .normal) ≡ false) → OtherLie p σ r q
+        go (inl a) b = inl (has-in q (routeOf p r .reverse) a, λ z. d (cond-t _ _ a ∙ sym z))
+        go (inr a) (inl b) = inr (λ m. clash (in-has q (routeOf p r .reverse) m) a, has-in q (routeOf p r .normal) b, λ z. d (cond-f _ _ a ∙ cond-t _ _ b ∙ sym z))
+        go (inr a) (inr b) = absurd (d (cond-f _ _ a ∙ cond-f _ _ b))
+
+    other-hears : (q : ℕ) → OtherLie p σ r q → lieAfter (routeOf p r .normal) (routeOf p r .reverse) (σ .lies) q ≢ lieAt σ q
+    unfolding lieAfter lieAt
+    other-hears q (inl s) z = s .1 (sym z ∙ cond-t _ _ (in-has q (routeOf p r .reverse) (s .0)))
+    other-hears q (inr s) z =
+        s .2 (sym z ∙ cond-f _ _ (fails (has q (routeOf p r .reverse)) (has-in q (routeOf p r .reverse)) (s .0)) ∙ cond-t _ _ (in-has q (routeOf p r .normal) (s .1)))
+
+    other-listed : (q : ℕ) → OtherLie p σ r q → Listed p r q
+    other-listed q (inl s) = inr (s .0)
+    other-listed q (inr s) = inl (s .1)
+
+    abbrev turns : ℕ → Bool
+    turns q = not (eqb (lieAfter (routeOf p r .normal) (routeOf p r .reverse) (σ .lies) q) (getD (σ .lies) q 0))
+
+    pub derails-tells : Tells n (derails (routeOf p r .normal) (routeOf p r .reverse) (σ .trains) (σ .lies)) (Derails p σ r)
+    unfolding derails lieAt
+    derails-tells = record {
+      says = λ q e. (train-says σ q (and-l (hasTrain (σ .trains) q) (turns q) e), other-says q (eqb-false _ _ (not-t _ (and-r (hasTrain (σ .trains) q) (turns q) e))));
+      hears = λ q s. and-i _ _ (train-hears σ q (s .0)) (not-i _ (ne-eqb _ _ (other-hears q (s .1))));
+      inside = λ q s. h q (other-listed q (s .1));
+    }
+
+  -- where a train stands
+  module _ (W : WellFormed p σ) (train : ℕ) (t : train ≢ noTrain) where
+    pub front-tells : Tells (length (p .tracks)) (stands (σ .trains) train) (FrontAt p σ train)
+    unfolding stands trainAt
+    front-tells = record {
+      says = λ u e. eqb-true _ _ e;
+      hears = λ u e. eq-eqb _ _ e;
+      inside = λ u e. elim (below? u (length (p .tracks))) [ inl h ↦ h | inr h ↦ absurd (t (sym e ∙ W .trainsEnd u h)) ];
+    }
+
+    pub front-at : {u : ℕ} → FrontAt p σ train u → frontOf p (σ .trains) train ≡ At u
+    unfolding frontOf
+    front-at {u} e = at-search front-tells (record { such = e; noLower = λ y h s. let z = W .once u y (λ n. t (sym e ∙ n)) (e ∙ sym s) in absurd (omega arith) })
+
+    pub at-front : {u : ℕ} → frontOf p (σ .trains) train ≡ At u → FrontAt p σ train u
+    unfolding frontOf
+    at-front e = search-at front-tells e .such
+
+    pub front-none : (InPlan p σ train → ⊥) → frontOf p (σ .trains) train ≡ Nothing
+    unfolding frontOf
+    front-none h = none-search front-tells (λ u s. h (u, s))
+
+    pub none-front : frontOf p (σ .trains) train ≡ Nothing → InPlan p σ train → ⊥
+    unfolding frontOf
+    none-front e w = search-none front-tells e (w .0) (w .1)
+
+    pub in-says : Is (inPlan p (σ .trains) train) → InPlan p σ train
+    unfolding inPlan
+    in-says e = go (frontOf p (σ .trains) train) refl e
+      where
+        go : (o : Found) → frontOf p (σ .trains) train ≡ o → Is (isFound o) → InPlan p σ train
+        go (At u) q i = (u, at-front q)
+        go Nothing q i = clash {b = false} i refl
+
+    pub in-hears : InPlan p σ train → Is (inPlan p (σ .trains) train)
+    unfolding inPlan
+    in-hears w = rw (front-at (w .1))
+
+  -- the red signal at a track's end
+  home-at : (u s : ℕ) → signalAt p u ≡ At s → StandsAt p u s
+  unfolding signalAt
+  home-at u s e = let l = lowest-at (length (p .signals)) (λ s. eqb (homeOf p s) u) e in (l .below, eqb-true _ _ (l .passes))
+
+  home-none : (u : ℕ) → signalAt p u ≡ Nothing → (s : ℕ) → StandsAt p u s → ⊥
+  unfolding signalAt
+  home-none u e s w = clash (eq-eqb (homeOf p s) u (w .1)) (lowest-none (length (p .signals)) (λ s. eqb (homeOf p s) u) e s (w .0))
+
+  module _ (R : Readable p) (u : ℕ) where
+    at-home : (s : ℕ) → StandsAt p u s → signalAt p u ≡ At s
+    at-home s w = go (signalAt p u) refl
+      where
+        go : (o : Found) → signalAt p u ≡ o → o ≡ At s
+        go (At t) e = ap At (one-signal p R u t s (home-at u t e) w)
+        go Nothing e = absurd (home-none u e s w)
+
+    pub red-at : {s : ℕ} → redAt p (σ .signals) u ≡ At s → RedAt p σ u s
+    unfolding redAt
+    red-at {s} e = go (signalAt p u) refl e
+      where
+        go : (o : Found) → signalAt p u ≡ o → ifRed (σ .signals) o ≡ At s → RedAt p σ u s
+        go (At t) q z = elim (split (isRed (σ .signals) t)) [
+          | inl y ↦ (let w : At t ≡ At s = sym (cond-t (At t) Nothing y) ∙ z in
+              let x : t ≡ s = cc in
+              rw (← x) (home-at u t q, red-says σ t y))
+          | inr n ↦ never (cc (cond-f (At t) Nothing n))
+        ]
+        go Nothing q z = never (cc)
+
+    pub at-red : {s : ℕ} → RedAt p σ u s → redAt p (σ .signals) u ≡ At s
+    unfolding redAt
+    at-red {s} w = rw (at-home s (w .0)) (cond-t (At s) Nothing (red-hears σ s (w .1)))
+
+    pub red-none : redAt p (σ .signals) u ≡ Nothing → None (RedAt p σ u)
+    red-none e s w = never (cc (at-red w))
+
+    pub none-red : None (RedAt p σ u) → redAt p (σ .signals) u ≡ Nothing
+    none-red h = go (redAt p (σ .signals) u) refl
+      where
+        go : (o : Found) → redAt p (σ .signals) u ≡ o → o ≡ Nothing
+        go (At s) e = absurd (h s (red-at e))
+        go Nothing e = refl
+
+  -- the way out, and the wrong leg
+  pub next-way : WellFormed p σ → (u : ℕ) → Next p σ u (wayOut p (σ .lies) u)
+  unfolding wayOut
+  next-way W u = elim (W .lie u) [
+    | inl z ↦ inl (z, ap (out p u) (sym (reverse-false σ u z)))
+    | inr z ↦ inr (z, ap (out p u) (sym (reverse-true σ u z)))
+  ]
+
+  pub way-next : (u v : ℕ) → Next p σ u v → wayOut p (σ .lies) u ≡ v
+  unfolding wayOut
+  way-next u v (inl w) = ap (out p u) (reverse-false σ u (w .0)) ∙ w .1
+  way-next u v (inr w) = ap (out p u) (reverse-true σ u (w .0)) ∙ w .1
+
+  pub through-says : WellFormed p σ → (u v : ℕ) → Is (runsThrough p (σ .lies) u v) → RunsThrough p σ u v
+  unfolding runsThrough
+  through-says W u v e =
+      let d = eqb-false _ _ (not-t _ (and-r (legged p v) (not (eqb (leg p v (isReverse (σ .lies) v)) u)) e)) in (
+        and-l (legged p v) (not (eqb (leg p v (isReverse (σ .lies) v)) u)) e,
+        elim (W .lie v) [
+          | inl z ↦ inl (z, λ q. d (ap (leg p v) (reverse-false σ v z) ∙ q))
+          | inr z ↦ inr (z, λ q. d (ap (leg p v) (reverse-true σ v z) ∙ q))
+        ],
+      )
+
+  pub through-hears : (u v : ℕ) → RunsThrough p σ u v → Is (runsThrough p (σ .lies) u v)
+  unfolding runsThrough
+  through-hears u v w = and-i _ _ (w .0) (not-i _ (ne-eqb _ _ (other (w .1))))
+    where
+      other : ((lieAt σ v ≡ normalLie) × (leg p v false ≢ u)) ⊎ ((lieAt σ v ≡ reverseLie) × (leg p v true ≢ u)) → leg p v (isReverse (σ .lies) v) ≢ u
+      other (inl s) q = s .1 (ap (leg p v) (sym (reverse-false σ v (s .0))) ∙ q)
+      other (inr s) q = s .1 (ap (leg p v) (sym (reverse-true σ v (s .0))) ∙ q)

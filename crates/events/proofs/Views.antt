@@ -1,0 +1,333 @@
+-- What the state shows after each answer, cell by cell.
+use mathlib.Core.Path.{_≡_, refl, sym, ap, _∙_}
+use mathlib.Core.Bool.{Bool, true, false, not, cond, _&&_}
+use mathlib.Core.Logic.{_≢_, _⊎_, inl, inr}
+use mathlib.Core.List.{List, [], _∷_}
+use Prim.Native.Nat.{ℕ, zero, suc, _+_, _<_, _≤_}
+use native.Mathlib.Omega.{arith}
+use native.Mathlib.Numerals.{add-one}
+use lib.ListN.{length, getD}
+use lib.Dec.{eqb, ltb}
+use borrow.Author.Tests.{eqb-true, eqb-false, eq-eqb, ne-eqb, lt-ltb, le-ltb, ltb-true}
+use Rattle.laws.specs.Tests.{Is, split, clash, below?, same?, and-l, and-r, and-i, cond-t, cond-f}
+use Rattle.laws.specs.Lists.{In, has, has-in, in-has, anyOf, anyOf-at, anyOf-any}
+use Rattle.laws.specs.Tables.{tab, getD-tab, length-tab}
+use Rattle.laws.specs.Sets.{member, excluding, member-excluding, member-excluding-other, excluding-le}
+use Rattle.plan.specs.declared.Release.{Release}
+use Rattle.plan.specs.Limits.{mostTracks, mostSignals}
+use Rattle.plan.specs.Records.{Plan, noRoute, homeOf, routeOf}
+use Rattle.plan.specs.File.{Readable}
+use Rattle.state.specs.declared.State.{State}
+use Rattle.state.specs.Holds.{room, adding}
+use Rattle.state.specs.State.{noTrain, normalLie, reverseLie, red, greenFor, trainAt, lieAt, heldBy, shownAt, HasTrain, Holds, WellFormed}
+use Rattle.state.proofs.Holds.{only-empty, member-adding, member-adding-other}
+use Rattle.state.proofs.Formed.{getD-beyond}
+use Rattle.events.specs.declared.Refusal.{Refusal}
+use Rattle.events.specs.declared.Harm.{Harm}
+use Rattle.events.specs.declared.Answer.{Answer}
+use Rattle.events.specs.declared.Answer.the-variants.{Refused, Accident, Granted, Cancelled, Entered, Moved, Left}
+use Rattle.events.specs.Decide.{listed, lieAfter}
+use Rattle.events.specs.After.{stood, gone, newTrains, newLies, taken, dropped, releases, droppedAll, arrived, newHolds, shown, standsAt, reddened, newSignals, after}
+use Rattle.events.specs.Meaning.{Listed, StandsAt, noRelease, Releases, AfterGrant, AfterCancel, AfterEntry, AfterMove, AfterLeaving}
+use Rattle.events.proofs.Facts.{getD-none, few-tracks, few-signals, few-routes, start-below, listed-below}
+use Rattle.events.proofs.Reflect.{fails, listed-says, listed-hears}
+
+-- A table shows its function everywhere, if that is nothing past the table's end.
+cell : (n : ℕ) (g : ℕ → ℕ) (i : ℕ) → (n ≤ i → g i ≡ 0) → getD (tab n g) i 0 ≡ g i
+cell n g i h = elim (below? i n) [
+  | inl k ↦ getD-tab n g i 0 k
+  | inr k ↦ getD-beyond (tab n g) i (rw (length-tab n g) k) ∙ sym (h k)
+]
+
+-- Holds dropped of several routes.
+
+droppedAll-le : (n : ℕ) (f : ℕ → Bool) (set : ℕ) → droppedAll n f set ≤ set
+unfolding droppedAll
+droppedAll-le zero f set = omega arith
+droppedAll-le (suc n) f set = go (f n) (droppedAll-le n f set)
+  where
+    go : (b : Bool) → droppedAll n f set ≤ set → cond b (excluding (droppedAll n f set) n) (droppedAll n f set) ≤ set
+    go true h = let e = excluding-le (droppedAll n f set) n in omega arith
+    go false h = h
+
+-- a route that f names is not there
+member-dropped : (n : ℕ) (f : ℕ → Bool) (set k : ℕ) → k < n → Is (f k) → member (droppedAll n f set) k ≡ false
+unfolding droppedAll
+member-dropped zero f set k h e = absurd (omega arith)
+member-dropped (suc n) f set k h e = go (same? k n) (f n) refl (member-dropped n f set k)
+  where
+    go : (k ≡ n) ⊎ (k ≢ n) → (b : Bool) → f n ≡ b → (k < n → Is (f k) → member (droppedAll n f set) k ≡ false)
+        → member (cond b (excluding (droppedAll n f set) n) (droppedAll n f set)) k ≡ false
+    go (inl q) true z ih = rw q (member-excluding (droppedAll n f set) n)
+    go (inl q) false z ih = clash e (rw q z)
+    go (inr q) true z ih = member-excluding-other (droppedAll n f set) n k q ∙ ih (omega arith) e
+    go (inr q) false z ih = ih (omega arith) e
+
+-- any other is there as before
+member-kept : (n : ℕ) (f : ℕ → Bool) (set k : ℕ) → (k < n → f k ≡ false) → member (droppedAll n f set) k ≡ member set k
+unfolding droppedAll
+member-kept zero f set k h = refl
+member-kept (suc n) f set k h = go (same? k n) (f n) refl (member-kept n f set k (λ b. h (omega arith)))
+  where
+    go : (k ≡ n) ⊎ (k ≢ n) → (b : Bool) → f n ≡ b → member (droppedAll n f set) k ≡ member set k
+        → member (cond b (excluding (droppedAll n f set) n) (droppedAll n f set)) k ≡ member set k
+    go (inl q) true z ih = clash (rw q z) (h (omega arith))
+    go (inr q) true z ih = member-excluding-other (droppedAll n f set) n k q ∙ ih
+    go q false z ih = ih
+
+-- Releases.
+module _ (p : Plan) (v q r : ℕ) where
+  abbrev names : Release → Bool
+  names release = eqb (release .track) v && eqb (release .point) q
+
+  releases-says : Is (releases p v q r) → Releases p v q r
+  unfolding releases
+  releases-says e =
+      let w = anyOf-at names (routeOf p r .releases) noRelease e in
+      let x = getD (routeOf p r .releases) (w .0) noRelease in
+      (w .0, w .1, eqb-true _ _ (and-l (eqb (x .track) v) (eqb (x .point) q) (w .2)), eqb-true _ _ (and-r (eqb (x .track) v) (eqb (x .point) q) (w .2)))
+
+  releases-hears : Releases p v q r → Is (releases p v q r)
+  unfolding releases
+  releases-hears w = anyOf-any names (routeOf p r .releases) (w .0) noRelease (w .1) (and-i _ _ (eq-eqb _ _ (w .2)) (eq-eqb _ _ (w .3)))
+
+  releases-below : Releases p v q r → r < length (p .routes)
+  unfolding routeOf
+  releases-below w = elim (below? r (length (p .routes))) [
+    | inl h ↦ h
+    | inr h ↦ (let z : w .0 < 0 = rw (getD-none (p .routes) r noRoute h) at (w .1) in absurd (omega arith))
+  ]
+
+module _ (p : Plan) (R : Readable p) (σ : State) (W : WellFormed p σ) where
+  -- beyond the plan nothing is held
+  none-held : (q : ℕ) → length (p .tracks) ≤ q → getD (σ .holds) q 0 ≡ 0
+  unfolding heldBy
+  none-held q h = only-empty (getD (σ .holds) q 0) (λ k. fails (member (getD (σ .holds) q 0) k) (λ m. m) (W .holdsEnd k q h))
+
+  -- A request granted.
+  module _ (r : ℕ) (k : r < length (p .routes)) where
+    unlisted : (q : ℕ) → (Listed p r q → ⊥) → (has q (routeOf p r .reverse) ≡ false) × (has q (routeOf p r .normal) ≡ false)
+    unlisted q n = (
+      fails (has q (routeOf p r .reverse)) (has-in q (routeOf p r .reverse)) (λ m. n (inr m)),
+      fails (has q (routeOf p r .normal)) (has-in q (routeOf p r .normal)) (λ m. n (inl m)),
+    )
+
+    far : (q : ℕ) → mostTracks ≤ q → Listed p r q → ⊥
+    far q h m = let a = listed-below p R r k q m in let b = few-tracks p R in omega arith
+
+    lie-kept : (q : ℕ) → (Listed p r q → ⊥) → lieAfter (routeOf p r .normal) (routeOf p r .reverse) (σ .lies) q ≡ lieAt σ q
+    unfolding lieAfter lieAt
+    lie-kept q n = let w = unlisted q n in cond-f _ _ (w .0) ∙ cond-f _ _ (w .1)
+
+    grant-lie : (q : ℕ) → lieAt (after p σ (Granted r)) q ≡ lieAfter (routeOf p r .normal) (routeOf p r .reverse) (σ .lies) q
+    unfolding after newLies lieAt
+    grant-lie q = cell mostTracks (lieAfter (routeOf p r .normal) (routeOf p r .reverse) (σ .lies)) q
+        (λ h. lie-kept q (far q h) ∙ W .liesEnd q (let b = few-tracks p R in omega arith))
+
+    grant-holds : (q : ℕ) → getD (after p σ (Granted r) .holds) q 0 ≡ taken r (routeOf p r .normal) (routeOf p r .reverse) (σ .holds) q
+    unfolding after newHolds taken
+    grant-holds q = cell mostTracks (taken r (routeOf p r .normal) (routeOf p r .reverse) (σ .holds)) q
+        (λ h. cond-f _ _ (fails (listed (routeOf p r .normal) (routeOf p r .reverse) q) (listed-says (routeOf p r .normal) (routeOf p r .reverse) q) (far q h))
+        ∙ none-held q (let b = few-tracks p R in omega arith))
+
+    grant-taken : (q : ℕ) → Listed p r q → getD (after p σ (Granted r) .holds) q 0 ≡ adding (getD (σ .holds) q 0) r
+    unfolding taken
+    grant-taken q m = grant-holds q ∙ cond-t _ _ (listed-hears (routeOf p r .normal) (routeOf p r .reverse) q m)
+
+    grant-same : (q : ℕ) → (Listed p r q → ⊥) → getD (after p σ (Granted r) .holds) q 0 ≡ getD (σ .holds) q 0
+    unfolding taken
+    grant-same q n =
+        grant-holds q ∙ cond-f _ _ (fails (listed (routeOf p r .normal) (routeOf p r .reverse) q) (listed-says (routeOf p r .normal) (routeOf p r .reverse) q) n)
+
+    start-few : routeOf p r .start < mostSignals
+    start-few = let a = start-below p R r k in let b = few-signals p R in omega arith
+
+    -- a signal that the route's request or cancel sets
+    set-signal : (colour s : ℕ) → getD (tab mostSignals (shown (routeOf p r .start) colour (σ .signals))) s 0 ≡ shown (routeOf p r .start) colour (σ .signals) s
+    unfolding shown shownAt
+    set-signal colour s = cell mostSignals (shown (routeOf p r .start) colour (σ .signals)) s
+        (λ h. cond-f _ _ (ne-eqb s (routeOf p r .start) (λ z. let a = start-few in omega arith))
+        ∙ W .signalsEnd s (let b = few-signals p R in omega arith))
+
+    shown-start : (colour : ℕ) → shown (routeOf p r .start) colour (σ .signals) (routeOf p r .start) ≡ colour
+    unfolding shown
+    shown-start colour = cond-t _ _ (eq-eqb (routeOf p r .start) (routeOf p r .start) refl)
+
+    shown-other : (colour s : ℕ) → s ≢ routeOf p r .start → shown (routeOf p r .start) colour (σ .signals) s ≡ shownAt σ s
+    unfolding shown shownAt
+    shown-other colour s d = cond-f _ _ (ne-eqb s (routeOf p r .start) d)
+
+    pub after-grant : AfterGrant p σ (after p σ (Granted r)) r
+    unfolding after newTrains newSignals trainAt shownAt heldBy lieAfter
+    after-grant = record {
+      trains = λ u. refl;
+      reverse = λ q m. grant-lie q ∙ cond-t _ _ (in-has q (routeOf p r .reverse) m);
+      normal = λ q m n. grant-lie q ∙ cond-f _ _ (fails (has q (routeOf p r .reverse)) (has-in q (routeOf p r .reverse)) n) ∙ cond-t _ _ (in-has q (routeOf p r .normal) m);
+      otherLies = λ q n. grant-lie q ∙ lie-kept q n;
+      holds = λ q m. ap (λ (set : ℕ). member set r) (grant-taken q m) ∙ member-adding (getD (σ .holds) q 0) r (let b = few-routes p R in omega arith);
+      otherHolds = λ j q w. other j q w (split (listed (routeOf p r .normal) (routeOf p r .reverse) q));
+      signal = set-signal (greenFor r) (routeOf p r .start) ∙ shown-start (greenFor r);
+      otherSignals = λ s d. set-signal (greenFor r) s ∙ shown-other (greenFor r) s d;
+    }
+      where
+        other : (j q : ℕ) → (j ≢ r) ⊎ (Listed p r q → ⊥) → (listed (routeOf p r .normal) (routeOf p r .reverse) q ≡ true) ⊎ (listed (routeOf p r .normal) (routeOf p r .reverse) q ≡ false)
+            → member (getD (after p σ (Granted r) .holds) q 0) j ≡ member (getD (σ .holds) q 0) j
+        other j q (inl d) (inl m) =
+            ap (λ (set : ℕ). member set j) (grant-taken q (listed-says (routeOf p r .normal) (routeOf p r .reverse) q m)) ∙ member-adding-other (getD (σ .holds) q 0) r j d
+        other j q (inl d) (inr m) =
+            ap (λ (set : ℕ). member set j) (grant-same q (λ l. clash (listed-hears (routeOf p r .normal) (routeOf p r .reverse) q l) m))
+        other j q (inr n) m = ap (λ (set : ℕ). member set j) (grant-same q n)
+
+    -- Cancelled.
+    cancel-holds : (q : ℕ) → getD (after p σ (Cancelled r) .holds) q 0 ≡ excluding (getD (σ .holds) q 0) r
+    unfolding after newHolds dropped
+    cancel-holds q = cell mostTracks (dropped r (σ .holds)) q
+        (λ h. let z = none-held q (let b = few-tracks p R in omega arith) in let e = excluding-le (getD (σ .holds) q 0) r in omega arith)
+
+    pub after-cancel : AfterCancel p σ (after p σ (Cancelled r)) r
+    unfolding after newTrains newLies newSignals trainAt lieAt shownAt heldBy
+    after-cancel = record {
+      trains = λ u. refl;
+      lies = λ q. refl;
+      holds = λ q m. clash m (ap (λ (set : ℕ). member set r) (cancel-holds q) ∙ member-excluding (getD (σ .holds) q 0) r);
+      otherHolds = λ j q d. ap (λ (set : ℕ). member set j) (cancel-holds q) ∙ member-excluding-other (getD (σ .holds) q 0) r j d;
+      signal = set-signal red (routeOf p r .start) ∙ shown-start red;
+      otherSignals = λ s d. set-signal red s ∙ shown-other red s d;
+    }
+
+  -- A train that stands on a track, and one that is gone from a track.
+
+  beyond : (x : ℕ) → mostTracks ≤ x → trainAt σ x ≡ noTrain
+  beyond x h = W .trainsEnd x (let b = few-tracks p R in omega arith)
+
+  module _ (train v : ℕ) (h : v < length (p .tracks)) where
+    stood-cell : (x : ℕ) → getD (tab mostTracks (stood train v (σ .trains))) x 0 ≡ stood train v (σ .trains) x
+    unfolding stood trainAt
+    stood-cell x = cell mostTracks (stood train v (σ .trains)) x
+        (λ f. cond-f _ _ (ne-eqb x v (λ z. let b = few-tracks p R in omega arith)) ∙ beyond x f)
+
+    stood-here : getD (tab mostTracks (stood train v (σ .trains))) v 0 ≡ train
+    unfolding stood
+    stood-here = stood-cell v ∙ cond-t _ _ (eq-eqb v v refl)
+
+    stood-other : (x : ℕ) → x ≢ v → getD (tab mostTracks (stood train v (σ .trains))) x 0 ≡ trainAt σ x
+    unfolding stood trainAt
+    stood-other x d = stood-cell x ∙ cond-f _ _ (ne-eqb x v d)
+
+  module _ (u : ℕ) (trains : List ℕ) (end : (x : ℕ) → mostTracks ≤ x → getD trains x 0 ≡ 0) where
+    gone-cell : (x : ℕ) → getD (tab mostTracks (gone u trains)) x 0 ≡ gone u trains x
+    unfolding gone
+    gone-cell x = cell mostTracks (gone u trains) x (λ f. go (eqb x u) (end x f))
+      where
+        go : (b : Bool) → getD trains x 0 ≡ 0 → cond b 0 (getD trains x 0) ≡ 0
+        go true e = refl
+        go false e = e
+
+    gone-here : getD (tab mostTracks (gone u trains)) u 0 ≡ noTrain
+    unfolding gone
+    gone-here = gone-cell u ∙ cond-t _ _ (eq-eqb u u refl)
+
+    gone-other : (x : ℕ) → x ≢ u → getD (tab mostTracks (gone u trains)) x 0 ≡ getD trains x 0
+    unfolding gone
+    gone-other x d = gone-cell x ∙ cond-f _ _ (ne-eqb x u d)
+
+  -- the signal on the track left
+  module _ (u : ℕ) where
+    stands-says : (s : ℕ) → Is (standsAt p u s) → StandsAt p u s
+    unfolding standsAt
+    stands-says s e = (
+      ltb-true s (length (p .signals)) (and-l (ltb s (length (p .signals))) (eqb (homeOf p s) u) e),
+      eqb-true (homeOf p s) u (and-r (ltb s (length (p .signals))) (eqb (homeOf p s) u) e),
+    )
+
+    stands-hears : (s : ℕ) → StandsAt p u s → Is (standsAt p u s)
+    unfolding standsAt
+    stands-hears s w = and-i _ _ (lt-ltb s (length (p .signals)) (w .0)) (eq-eqb (homeOf p s) u (w .1))
+
+    red-cell : (s : ℕ) → getD (tab mostSignals (reddened p u (σ .signals))) s 0 ≡ reddened p u (σ .signals) s
+    unfolding reddened shownAt
+    red-cell s = cell mostSignals (reddened p u (σ .signals)) s (λ f. go (standsAt p u s) (W .signalsEnd s (let b = few-signals p R in omega arith)))
+      where
+        go : (b : Bool) → getD (σ .signals) s 0 ≡ 0 → cond b 0 (getD (σ .signals) s 0) ≡ 0
+        go true e = refl
+        go false e = e
+
+    red-here : (s : ℕ) → StandsAt p u s → getD (tab mostSignals (reddened p u (σ .signals))) s 0 ≡ red
+    unfolding reddened
+    red-here s w = red-cell s ∙ cond-t _ _ (stands-hears s w)
+
+    red-other : (s : ℕ) → (StandsAt p u s → ⊥) → getD (tab mostSignals (reddened p u (σ .signals))) s 0 ≡ shownAt σ s
+    unfolding reddened shownAt
+    red-other s n = red-cell s ∙ cond-f _ _ (fails (standsAt p u s) (stands-says s) n)
+
+  -- Entered.
+  pub after-entry : (train u : ℕ) → u < length (p .tracks) → AfterEntry σ (after p σ (Entered train u)) train u
+  unfolding after newTrains newLies newHolds newSignals trainAt lieAt heldBy shownAt
+  after-entry train u h = record {
+    stands = stood-here train u h;
+    otherTrains = λ x d. stood-other train u h x d;
+    lies = λ q. refl;
+    holds = λ k q. refl;
+    signals = λ s. refl;
+  }
+
+  -- Moved.
+  module _ (v : ℕ) where
+    move-holds : (q : ℕ) → getD (tab mostTracks (arrived p v (σ .holds))) q 0 ≡ arrived p v (σ .holds) q
+    unfolding arrived
+    move-holds q = cell mostTracks (arrived p v (σ .holds)) q
+        (λ f. let z = none-held q (let b = few-tracks p R in omega arith) in
+        let e = droppedAll-le (length (p .routes)) (releases p v q) (getD (σ .holds) q 0) in omega arith)
+
+    released : (k q : ℕ) → Releases p v q k → member (getD (tab mostTracks (arrived p v (σ .holds))) q 0) k ≡ false
+    unfolding arrived
+    released k q w =
+        ap (λ (set : ℕ). member set k) (move-holds q)
+        ∙ member-dropped (length (p .routes)) (releases p v q) (getD (σ .holds) q 0) k (releases-below p v q k w) (releases-hears p v q k w)
+
+    kept : (k q : ℕ) → (Releases p v q k → ⊥) → member (getD (tab mostTracks (arrived p v (σ .holds))) q 0) k ≡ member (getD (σ .holds) q 0) k
+    unfolding arrived
+    kept k q n =
+        ap (λ (set : ℕ). member set k) (move-holds q)
+        ∙ member-kept (length (p .routes)) (releases p v q) (getD (σ .holds) q 0) k (λ h. fails (releases p v q k) (releases-says p v q k) n)
+
+  pub after-move : (train u v : ℕ) → v < length (p .tracks) → u ≢ v → AfterMove p σ (after p σ (Moved train u v)) train u v
+  unfolding after newTrains newLies newHolds newSignals trainAt lieAt heldBy shownAt
+  after-move train u v h d = record {
+    stands = gone-other u front end v (λ z. d (sym z)) ∙ stood-here train v h;
+    behind = gone-here u front end;
+    otherTrains = λ x a b. gone-other u front end x a ∙ stood-other train v h x b;
+    lies = λ q. refl;
+    holds = λ k q w m. clash m (released v k q w);
+    otherHolds = λ k q n. kept v k q n;
+    signal = λ s w. red-here u s w;
+    otherSignals = λ s n. red-other u s n;
+  }
+    where
+      front : List ℕ
+      front = tab mostTracks (stood train v (σ .trains))
+
+      end : (x : ℕ) → mostTracks ≤ x → getD front x 0 ≡ 0
+      end x f = getD-beyond front x (rw (length-tab mostTracks (stood train v (σ .trains))) f)
+
+  -- Left.
+  pub after-leaving : (train u : ℕ) → AfterLeaving p σ (after p σ (Left train u)) u
+  unfolding after newTrains newLies newHolds newSignals trainAt lieAt heldBy shownAt
+  after-leaving train u = record {
+    behind = gone-here u (σ .trains) beyond;
+    otherTrains = λ x d. gone-other u (σ .trains) beyond x d;
+    lies = λ q. refl;
+    holds = λ k q. refl;
+    signal = λ s w. red-here u s w;
+    otherSignals = λ s n. red-other u s n;
+  }
+
+-- A refusal or an accident leaves the state as it was.
+
+pub after-refusal : (p : Plan) (σ : State) (refusal : Refusal) → after p σ (Refused refusal) ≡ σ
+unfolding after newTrains newLies newHolds newSignals
+after-refusal p σ refusal = refl
+
+pub after-accident : (p : Plan) (σ : State) (harm : Harm) → after p σ (Accident harm) ≡ σ
+unfolding after newTrains newLies newHolds newSignals
+after-accident p σ harm = refl

@@ -1,0 +1,5 @@
+pub mod Events
+pub mod Answers
+pub mod Decide
+pub mod After
+pub mod Meaning

@@ -1,0 +1,4 @@
+pub mod Holds
+pub mod Walks
+pub mod Cells
+pub mod Formed

@@ -1,0 +1,97 @@
+-- `form::well_formed`: the nine tests in order; the first that fails answers, and the last answers for all.
+use Rattle.state.proofs.Formed.{fail-trains, fail-trainsEnd, fail-liesEnd, fail-holdsEnd, fail-signalsEnd, fail-routesEnd, fail-points, fail-greens, last-lies}
+use borrow.Author.Needs.{needs}
+use Rattle.state.proofs.form.well_formed.Statement.{statement}
+use Rattle.state.proofs.form.well_formed.Tie as tie
+
+once-requires : tie.Need-once-requires
+once-requires c κs = search needs
+
+returns : tie.Need-returns
+returns c = fail-trains _ _ _ (c .before .once .ensures) (c .if1 .taken)
+
+tracks-requires : tie.Need-tracks-requires
+tracks-requires c κs = search needs
+
+empty-from-requires : tie.Need-empty-from-requires
+empty-from-requires c κs = search needs
+
+returns-2 : tie.Need-returns-2
+returns-2 c = fail-trainsEnd _ _ _ _ (c .before .before .before .tracks .ensures) (c .before .empty-from .ensures) (c .if2 .taken)
+
+empty-from-requires-2 : tie.Need-empty-from-requires-2
+empty-from-requires-2 c κs = search needs
+
+returns-3 : tie.Need-returns-3
+returns-3 c = fail-liesEnd _ _ _ _ (c .before .before .before .before .before .before .tracks .ensures) (c .before .empty-from2 .ensures) (c .if3 .taken)
+
+none-from-requires : tie.Need-none-from-requires
+none-from-requires c κs = search needs
+
+returns-4 : tie.Need-returns-4
+returns-4 c = fail-holdsEnd _ _ _ _ (c .before .before .before .before .before .before .before .before .before .tracks .ensures) (c .before .none-from .ensures) (c .if4 .taken)
+
+signals-requires : tie.Need-signals-requires
+signals-requires c κs = search needs
+
+empty-from-requires-3 : tie.Need-empty-from-requires-3
+empty-from-requires-3 c κs = search needs
+
+returns-5 : tie.Need-returns-5
+returns-5 c = fail-signalsEnd _ _ _ _ (c .before .before .before .signals .ensures) (c .before .empty-from3 .ensures) (c .if5 .taken)
+
+routes-requires : tie.Need-routes-requires
+routes-requires c κs = search needs
+
+all-within-requires : tie.Need-all-within-requires
+all-within-requires c κs = search needs
+
+returns-6 : tie.Need-returns-6
+returns-6 c = fail-routesEnd _ _ _ _ (c .before .before .before .routes .ensures) (c .before .all-within .ensures) (c .if6 .taken)
+
+points-only-requires : tie.Need-points-only-requires
+points-only-requires c κs = search needs
+
+returns-7 : tie.Need-returns-7
+returns-7 c = fail-points _ _ _ (c .before .points-only .ensures) (c .if7 .taken)
+
+greens-name-requires : tie.Need-greens-name-requires
+greens-name-requires c κs = search needs
+
+returns-8 : tie.Need-returns-8
+returns-8 c = fail-greens _ _ _ (c .before .greens-name .ensures) (c .if8 .taken)
+
+lies-known-requires : tie.Need-lies-known-requires
+lies-known-requires c κs = search needs
+
+returns-9 : tie.Need-returns-9
+returns-9 c = last-lies _ _ (c .before .before .before .before .before .before .before .before .before .before .before .before .before .before .before .before .before .before .before .before .before .before .before .tracks .ensures) (c .before .before .before .before .before .before .before .before .before .before .before .before .before .signals .ensures) (c .before .before .before .before .before .before .before .before .before .routes .ensures)
+    (c .before .before .before .before .before .before .before .before .before .before .before .before .before .before .before .before .before .before .before .before .before .before .before .before .before .once .ensures) (c .before .before .before .before .before .before .before .before .before .before .before .before .before .before .before .before .before .before .before .before .before .before .before .before .if1 .left) (c .before .before .before .before .before .before .before .before .before .before .before .before .before .before .before .before .before .before .before .before .before .empty-from .ensures) (c .before .before .before .before .before .before .before .before .before .before .before .before .before .before .before .before .before .before .before .before .if2 .left) (c .before .before .before .before .before .before .before .before .before .before .before .before .before .before .before .before .before .before .empty-from2 .ensures) (c .before .before .before .before .before .before .before .before .before .before .before .before .before .before .before .before .before .if3 .left)
+    (c .before .before .before .before .before .before .before .before .before .before .before .before .before .before .before .none-from .ensures) (c .before .before .before .before .before .before .before .before .before .before .before .before .before .before .if4 .left) (c .before .before .before .before .before .before .before .before .before .before .before .empty-from3 .ensures) (c .before .before .before .before .before .before .before .before .before .before .if5 .left) (c .before .before .before .before .before .before .before .all-within .ensures) (c .before .before .before .before .before .before .if6 .left)
+    (c .before .before .before .before .before .points-only .ensures) (c .before .before .before .before .if7 .left) (c .before .before .before .greens-name .ensures) (c .before .before .if8 .left) (c .lies-known .ensures)
+
+pub well-formed-spec : {M : Type 1} → statement M
+well-formed-spec =
+    tie.close
+    (tie.spec
+    once-requires
+    returns
+    tracks-requires
+    empty-from-requires
+    returns-2
+    empty-from-requires-2
+    returns-3
+    none-from-requires
+    returns-4
+    signals-requires
+    empty-from-requires-3
+    returns-5
+    routes-requires
+    all-within-requires
+    returns-6
+    points-only-requires
+    returns-7
+    greens-name-requires
+    returns-8
+    lies-known-requires
+    returns-9)
