@@ -1,0 +1,5 @@
+pub mod Meaning
+pub mod Notions
+pub mod Own
+pub mod Slips
+pub mod Verdicts

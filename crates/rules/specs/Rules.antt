@@ -1,0 +1,248 @@
+-- The twelve plan rules of document 01, each a test of one row, and the verdict: accepted, or the lowest broken rule with its lowest row.
+use Prim.Native.Nat.{ℕ, zero, suc, _-_}
+use mathlib.Core.Bool.{Bool, true, false, not, cond, _&&_, _||_}
+use mathlib.Core.List.{List, [], _∷_}
+use lib.ListN.{length, getD}
+use lib.Dec.{eqb, ltb}
+use Rattle.laws.specs.Lists.{allOf, anyOf, has}
+use Rattle.laws.specs.Search.{allBelow, lowest, unless}
+use Rattle.plan.specs.declared.Release.{Release}
+use Rattle.plan.specs.Records.{Plan, routeOf, entryOf, homeOf}
+use Rattle.plan.specs.Layout.{isPlain, isExit, forks, legged, out, leg, leads, isHome}
+use Rattle.laws.specs.declared.Found.{Found}
+use Rattle.rules.specs.declared.Verdict.{Verdict}
+use Rattle.rules.specs.declared.Verdict.the-variants.{Accepted, WaysMeet, LegAstray, LedTwice, HomeNotPlain, EntryMisplaced, PathBroken, PathMisended, PathNotClear, PointMislisted, PointNotClear, ReleaseAstray, EntryNotClear}
+
+-- no number stands twice in a list
+unfoldable pub different : List ℕ → Bool
+different [] = true
+different (u ∷ l) = not (has u l) && different l
+
+-- v is on a path, and later than x where x is on it
+unfoldable pub later : ℕ → ℕ → List ℕ → Bool
+later v x [] = false
+later v x (u ∷ l) = cond (eqb u v) (not (has x (u ∷ l))) (later v x l)
+
+abbrev pub noRelease : Release
+noRelease = record { track = 0; point = 0 }
+
+-- What a route says.
+module _ (p : Plan) (r : ℕ) where
+  -- how many tracks its path has
+  abbrev pub pathLength : ℕ
+  pathLength = length (routeOf p r .path)
+
+  -- its home, then its path
+  unfoldable pub wayOf : List ℕ
+  wayOf = homeOf p (routeOf p r .start) ∷ routeOf p r .path
+
+  -- the home at place 0, the path from place 1 on
+  unfoldable pub trackAt : ℕ → ℕ
+  trackAt i = getD wayOf i 0
+
+  -- the points that it lists normal (false) and reverse (true)
+  unfoldable pub pointsOf : Bool → List ℕ
+  pointsOf lie = cond lie (routeOf p r .reverse) (routeOf p r .normal)
+
+  -- it lists the point x for a lie; for some lie
+  unfoldable pub wants : ℕ → Bool → Bool
+  wants x lie = has x (pointsOf lie)
+
+  unfoldable pub listed : ℕ → Bool
+  listed x = wants x false || wants x true
+
+  -- it lists x for a lie, and by that lie x leads to v; for some lie
+  unfoldable pub wantsOut : ℕ → Bool → ℕ → Bool
+  wantsOut x lie v = wants x lie && eqb (out p x lie) v
+
+  unfoldable pub listedOut : ℕ → ℕ → Bool
+  listedOut x v = wantsOut x false v || wantsOut x true v
+
+  -- it lists x for a lie, and by that lie x is entered from u; for some lie
+  unfoldable pub wantsIn : ℕ → Bool → ℕ → Bool
+  wantsIn x lie u = wants x lie && eqb (leg p x lie) u
+
+  unfoldable pub listedIn : ℕ → ℕ → Bool
+  listedIn x u = wantsIn x false u || wantsIn x true u
+
+  -- its releases, by their number in the list
+  unfoldable pub releaseOf : ℕ → Release
+  releaseOf k = getD (routeOf p r .releases) k noRelease
+
+  -- it gives x back; it gives x back when a train arrives on v
+  unfoldable pub released : ℕ → Bool
+  released x = anyOf (λ q. eqb (q .point) x) (routeOf p r .releases)
+
+  unfoldable pub frees : ℕ → ℕ → Bool
+  frees v x = anyOf (λ q. eqb (q .track) v && eqb (q .point) x) (routeOf p r .releases)
+
+module _ (p : Plan) where
+  -- 1 (row: track). The two ways out of a facing point differ; so do the two legs of a trailing point.
+  unfoldable pub waysDiffer : ℕ → Bool
+  waysDiffer u = not (forks p u && eqb (out p u false) (out p u true)) && not (legged p u && eqb (leg p u false) (leg p u true))
+
+  -- 2 (track). Each leg of a trailing point leads to it.
+  unfoldable pub legsLead : ℕ → Bool
+  legsLead v = not (legged p v) || leads p (leg p v false) v && leads p (leg p v true) v
+
+  unfoldable pub isLeg : ℕ → ℕ → Bool
+  isLeg v u = eqb (leg p v false) u || eqb (leg p v true) u
+
+  -- no track below u leads to v
+  unfoldable pub noneLeads : ℕ → ℕ → Bool
+  noneLeads v u = allBelow u (λ w. not (leads p w v))
+
+  -- u leads to v and must not: v is a trailing point and u is none of its legs, or another track leads to v already
+  unfoldable pub forbidden : ℕ → ℕ → Bool
+  forbidden v u = leads p u v && cond (legged p v) (not (isLeg v u)) (not (noneLeads v u))
+
+  -- 3 (track led to). No two tracks lead to the same track, except the two legs of a trailing point; nothing but its legs leads to a
+  -- trailing point.
+  unfoldable pub ledOnce : ℕ → Bool
+  ledOnce v = allBelow (length (p .tracks)) (λ u. not (forbidden v u))
+
+  -- 4 (signal). A home track is plain.
+  unfoldable pub homePlain : ℕ → Bool
+  homePlain s = isPlain p (homeOf p s)
+
+  -- 5 (entry). An entry track is plain, is some signal's home, and nothing leads to it.
+  unfoldable pub entryPlaced : ℕ → Bool
+  entryPlaced e = isPlain p (entryOf p e .track) && isHome p (entryOf p e .track) && noneLeads (entryOf p e .track) (length (p .tracks))
+
+  -- the track at place i of a route leads to the following one
+  unfoldable pub linkedAt : ℕ → ℕ → Bool
+  linkedAt r i = leads p (trackAt p r i) (trackAt p r (suc i))
+
+  -- 6 (route). The home leads to the first path track, each path track to the following one; home and path tracks are all different.
+  unfoldable pub pathLinked : ℕ → Bool
+  pathLinked r = allBelow (pathLength p r) (linkedAt r) && different (wayOf p r)
+
+  -- the path track at i is no home
+  unfoldable pub noHomeAt : ℕ → ℕ → Bool
+  noHomeAt r i = not (isHome p (trackAt p r (suc i)))
+
+  -- a train may stop there: a home or an exit
+  unfoldable pub ends : ℕ → Bool
+  ends u = isHome p u || isExit p u
+
+  -- 7 (route). No path track but the last is a home; the last is a home or an exit.
+  unfoldable pub pathEnds : ℕ → Bool
+  pathEnds r = allBelow (pathLength p r - 1) (noHomeAt r) && ends (trackAt p r (pathLength p r))
+
+  -- 8 (route). The clear list holds the whole path.
+  unfoldable pub pathClear : ℕ → Bool
+  pathClear r = allOf (λ u. has u (routeOf p r .clear)) (routeOf p r .path)
+
+  -- the path track at i, if it is a facing point, is listed by the way out taken, and there is one
+  unfoldable pub facingListed : ℕ → ℕ → Bool
+  facingListed r i = not (forks p (trackAt p r (suc i))) || ltb (suc i) (pathLength p r) && listedOut p r (trackAt p r (suc i)) (trackAt p r (suc (suc i)))
+
+  -- if it is a trailing point, it is listed by the leg it is entered from
+  unfoldable pub trailingListed : ℕ → ℕ → Bool
+  trailingListed r i = not (legged p (trackAt p r (suc i))) || listedIn p r (trackAt p r (suc i)) (trackAt p r i)
+
+  -- 9 (route). Each facing point on the path is listed normal or reverse by the way out taken, each trailing point by the leg it is
+  -- entered from; no point is in both lists.
+  unfoldable pub pointsListed : ℕ → Bool
+  pointsListed r =
+      allBelow (pathLength p r) (facingListed r)
+      && allBelow (pathLength p r) (trailingListed r)
+      && allOf (λ x. not (wants p r x true)) (pointsOf p r false)
+
+  -- 10 (route). Every listed point is in the clear list.
+  unfoldable pub pointsClear : ℕ → Bool
+  pointsClear r = allOf (λ x. has x (routeOf p r .clear)) (pointsOf p r false) && allOf (λ x. has x (routeOf p r .clear)) (pointsOf p r true)
+
+  -- x is a listed point, and v is on the path, later than x where x is on it
+  unfoldable pub releaseFits : ℕ → ℕ → ℕ → Bool
+  releaseFits r v x = listed p r x && later v x (routeOf p r .path)
+
+  -- 11 (route). The release list's points are exactly the listed points; each release track is on the path, and later than its point
+  -- where the point is on the path.
+  unfoldable pub releasesFit : ℕ → Bool
+  releasesFit r =
+      allOf (λ q. releaseFits r (q .track) (q .point)) (routeOf p r .releases)
+      && allOf (released p r) (pointsOf p r false)
+      && allOf (released p r) (pointsOf p r true)
+
+  -- 12 (entry). The clear list holds the entry track.
+  unfoldable pub entryClear : ℕ → Bool
+  entryClear e = has (entryOf p e .track) (entryOf p e .clear)
+
+-- A rule: how many rows it goes over, its test of a row, and the verdict where a row breaks it.
+pub record Rule : Type 0 where
+  pub rows : ℕ
+  pub test : ℕ → Bool
+  pub broken : ℕ → Verdict
+
+-- the lowest row that breaks a rule
+unfoldable pub lowestBroken : Rule → Found
+lowestBroken k = lowest (k .rows) (λ i. not (k .test i))
+
+abbrev pub over : ℕ → (ℕ → Bool) → (ℕ → Verdict) → Rule
+over rows test broken = record { rows = rows; test = test; broken = broken }
+
+-- what stands for a rule that doesn't exist: none breaks it
+abbrev pub noRule : Rule
+noRule = over 0 (λ i. true) (λ i. Accepted)
+
+-- the rules in their order; there is none of number 0
+unfoldable pub rules : Plan → List Rule
+rules p =
+    noRule
+    ∷ over (length (p .tracks)) (waysDiffer p) WaysMeet
+    ∷ over (length (p .tracks)) (legsLead p) LegAstray
+    ∷ over (length (p .tracks)) (ledOnce p) LedTwice
+    ∷ over (length (p .signals)) (homePlain p) HomeNotPlain
+    ∷ over (length (p .entries)) (entryPlaced p) EntryMisplaced
+    ∷ over (length (p .routes)) (pathLinked p) PathBroken
+    ∷ over (length (p .routes)) (pathEnds p) PathMisended
+    ∷ over (length (p .routes)) (pathClear p) PathNotClear
+    ∷ over (length (p .routes)) (pointsListed p) PointMislisted
+    ∷ over (length (p .routes)) (pointsClear p) PointNotClear
+    ∷ over (length (p .routes)) (releasesFit p) ReleaseAstray
+    ∷ over (length (p .entries)) (entryClear p) EntryNotClear
+    ∷ []
+
+unfoldable pub ruleOf : Plan → ℕ → Rule
+ruleOf p k = getD (rules p) k noRule
+
+-- the lowest broken rule with its lowest row
+unfoldable pub firstBroken : List Rule → Verdict
+firstBroken [] = Accepted
+firstBroken (k ∷ l) = unless (lowestBroken k) (k .broken) (firstBroken l)
+
+unfoldable pub verdict : Plan → Verdict
+verdict p = firstBroken (rules p)
+
+-- The document's numbers of a verdict: the rule (0: accepted) and the row.
+
+unfoldable pub ruleNumber : Verdict → ℕ
+ruleNumber Accepted = 0
+ruleNumber (WaysMeet i) = 1
+ruleNumber (LegAstray i) = 2
+ruleNumber (LedTwice i) = 3
+ruleNumber (HomeNotPlain i) = 4
+ruleNumber (EntryMisplaced i) = 5
+ruleNumber (PathBroken i) = 6
+ruleNumber (PathMisended i) = 7
+ruleNumber (PathNotClear i) = 8
+ruleNumber (PointMislisted i) = 9
+ruleNumber (PointNotClear i) = 10
+ruleNumber (ReleaseAstray i) = 11
+ruleNumber (EntryNotClear i) = 12
+
+unfoldable pub ruleRow : Verdict → ℕ
+ruleRow Accepted = 0
+ruleRow (WaysMeet i) = i
+ruleRow (LegAstray i) = i
+ruleRow (LedTwice i) = i
+ruleRow (HomeNotPlain i) = i
+ruleRow (EntryMisplaced i) = i
+ruleRow (PathBroken i) = i
+ruleRow (PathMisended i) = i
+ruleRow (PathNotClear i) = i
+ruleRow (PointMislisted i) = i
+ruleRow (PointNotClear i) = i
+ruleRow (ReleaseAstray i) = i
+ruleRow (EntryNotClear i) = i

@@ -1,0 +1,154 @@
+-- The twelve plan rules as document 01 says them, with "for all", "there is" and equations; proofs/Meaning.antt shows that the tests say just this.
+use Prim.Native.Nat.{ℕ, zero, suc, _+_, _<_, _≤_}
+use mathlib.Core.Path.{_≡_}
+use mathlib.Core.Bool.{Bool, true, false, not}
+use mathlib.Core.Logic.{_≢_, _⊎_}
+use mathlib.Core.List.{List, [], _∷_}
+use lib.ListN.{length, getD}
+use Rattle.laws.specs.Lists.{In}
+use Rattle.plan.specs.Records.{Plan, plain, facing, trailing, exit, trackOf, homeOf, routeOf, entryOf}
+use Rattle.plan.specs.Layout.{out, leg}
+use Rattle.rules.specs.Rules.{pathLength, trackAt, pointsOf, releaseOf, ruleOf}
+
+-- each of two statements gives the other
+abbrev pub Exactly : Type 0 → Type 0 → Type 0
+Exactly A B = (A → B) × (B → A)
+
+-- What the kinds mean. A lie is normal (false) or reverse (true).
+module _ (p : Plan) where
+  abbrev pub Plain : ℕ → Type 0
+  Plain u = trackOf p u .kind ≡ plain
+
+  abbrev pub Exit : ℕ → Type 0
+  Exit u = trackOf p u .kind ≡ exit
+
+  abbrev pub Facing : ℕ → Type 0
+  Facing u = trackOf p u .kind ≡ facing
+
+  abbrev pub Trailing : ℕ → Type 0
+  Trailing v = trackOf p v .kind ≡ trailing
+
+  -- a track leads to its next, or to either way out of a facing point; an exit leads nowhere
+  abbrev pub Leads : ℕ → ℕ → Type 0
+  Leads u v = (Exit u → ⊥) × ((lie : Bool) × (out p u lie ≡ v))
+
+  -- some signal's home
+  abbrev pub Home : ℕ → Type 0
+  Home u = (s : ℕ) × (s < length (p .signals)) × (homeOf p s ≡ u)
+
+-- What a route lists, and what it gives back.
+module _ (p : Plan) (r : ℕ) where
+  abbrev pub Listed : ℕ → Type 0
+  Listed x = (lie : Bool) × In x (pointsOf p r lie)
+
+  abbrev pub Released : ℕ → Type 0
+  Released x = (k : ℕ) × (k < length (routeOf p r .releases)) × (releaseOf p r k .point ≡ x)
+
+-- 1 (row: track). The two ways out of a facing point differ; so do the two legs of a trailing point.
+pub record WaysDiffer (p : Plan) (u : ℕ) : Type 0 where
+  pub ways : Facing p u → out p u false ≢ out p u true
+  pub legs : Trailing p u → leg p u false ≢ leg p u true
+
+-- 2 (track). Each leg of a trailing point leads to it.
+abbrev pub LegsLead : Plan → ℕ → Type 0
+LegsLead p v = Trailing p v → (lie : Bool) → Leads p (leg p v lie) v
+
+-- 3 (track led to). No two tracks lead to the same track, except the two legs of a trailing point; nothing but its legs leads to a trailing
+-- point.
+pub record LedOnce (p : Plan) (v : ℕ) : Type 0 where
+  pub two : (u w : ℕ) → Leads p u v → Leads p w v → u ≢ w → Trailing p v × ((lie : Bool) × (u ≡ leg p v lie) × (w ≡ leg p v (not lie)))
+  pub legs : Trailing p v → (u : ℕ) → Leads p u v → (lie : Bool) × (u ≡ leg p v lie)
+
+-- 4 (signal). A home track is plain.
+abbrev pub HomePlain : Plan → ℕ → Type 0
+HomePlain p s = Plain p (homeOf p s)
+
+-- 5 (entry). An entry track is plain, is some signal's home, and nothing leads to it.
+pub record EntryPlaced (p : Plan) (e : ℕ) : Type 0 where
+  pub is-plain : Plain p (entryOf p e .track)
+  pub home : Home p (entryOf p e .track)
+  pub nothing : (u : ℕ) → Leads p u (entryOf p e .track) → ⊥
+
+-- 6 (route). The home leads to the first path track, each path track to the following one; home and path tracks are all different.
+pub record PathLinked (p : Plan) (r : ℕ) : Type 0 where
+  pub lead : (i : ℕ) → i < pathLength p r → Leads p (trackAt p r i) (trackAt p r (suc i))
+  pub apart : (i j : ℕ) → i < j → j ≤ pathLength p r → trackAt p r i ≢ trackAt p r j
+
+-- 7 (route). No path track but the last is a home; the last is a home or an exit.
+pub record PathEnds (p : Plan) (r : ℕ) : Type 0 where
+  pub middle : (i : ℕ) → suc i < pathLength p r → Home p (trackAt p r (suc i)) → ⊥
+  pub last : Home p (trackAt p r (pathLength p r)) ⊎ Exit p (trackAt p r (pathLength p r))
+
+-- 8 (route). The clear list holds the whole path.
+abbrev pub PathClear : Plan → ℕ → Type 0
+PathClear p r = (u : ℕ) → In u (routeOf p r .path) → In u (routeOf p r .clear)
+
+-- 9 (route). Each facing point on the path is listed normal or reverse by the way out taken, each trailing point by the leg it is entered from;
+-- no point is in both lists.
+pub record PointsListed (p : Plan) (r : ℕ) : Type 0 where
+  pub ways : (i : ℕ) → i < pathLength p r → Facing p (trackAt p r (suc i))
+      → (lie : Bool) × In (trackAt p r (suc i)) (pointsOf p r lie) × (suc i < pathLength p r) × (out p (trackAt p r (suc i)) lie ≡ trackAt p r (suc (suc i)))
+  pub legs : (i : ℕ) → i < pathLength p r → Trailing p (trackAt p r (suc i))
+      → (lie : Bool) × In (trackAt p r (suc i)) (pointsOf p r lie) × (leg p (trackAt p r (suc i)) lie ≡ trackAt p r i)
+  pub apart : (x : ℕ) → In x (pointsOf p r false) → In x (pointsOf p r true) → ⊥
+
+-- 10 (route). Every listed point is in the clear list.
+abbrev pub PointsClear : Plan → ℕ → Type 0
+PointsClear p r = (x : ℕ) → Listed p r x → In x (routeOf p r .clear)
+
+-- 11 (route). The release list's points are exactly the listed points; each release track is on the path, and later than its point where the
+-- point is on the path.
+pub record ReleasesFit (p : Plan) (r : ℕ) : Type 0 where
+  pub points : (x : ℕ) → Exactly (Released p r x) (Listed p r x)
+  pub on-path : (k : ℕ) → k < length (routeOf p r .releases) → In (releaseOf p r k .track) (routeOf p r .path)
+  pub after : (k i j : ℕ) → k < length (routeOf p r .releases) → i < pathLength p r → j < pathLength p r
+      → trackAt p r (suc i) ≡ releaseOf p r k .point → trackAt p r (suc j) ≡ releaseOf p r k .track → i < j
+
+-- 12 (entry). The clear list holds the entry track.
+abbrev pub EntryClear : Plan → ℕ → Type 0
+EntryClear p e = In (entryOf p e .track) (entryOf p e .clear)
+
+-- All of them, for every row.
+pub record Sound (p : Plan) : Type 0 where
+  pub rule1 : (u : ℕ) → u < length (p .tracks) → WaysDiffer p u
+  pub rule2 : (v : ℕ) → v < length (p .tracks) → LegsLead p v
+  pub rule3 : (v : ℕ) → v < length (p .tracks) → LedOnce p v
+  pub rule4 : (s : ℕ) → s < length (p .signals) → HomePlain p s
+  pub rule5 : (e : ℕ) → e < length (p .entries) → EntryPlaced p e
+  pub rule6 : (r : ℕ) → r < length (p .routes) → PathLinked p r
+  pub rule7 : (r : ℕ) → r < length (p .routes) → PathEnds p r
+  pub rule8 : (r : ℕ) → r < length (p .routes) → PathClear p r
+  pub rule9 : (r : ℕ) → r < length (p .routes) → PointsListed p r
+  pub rule10 : (r : ℕ) → r < length (p .routes) → PointsClear p r
+  pub rule11 : (r : ℕ) → r < length (p .routes) → ReleasesFit p r
+  pub rule12 : (e : ℕ) → e < length (p .entries) → EntryClear p e
+
+-- The sentences by their number, as the rules stand in their table.
+
+unfoldable pub sentences : Plan → List (ℕ → Type 0)
+sentences p =
+    (λ i. Unit)
+    ∷ WaysDiffer p
+    ∷ LegsLead p
+    ∷ LedOnce p
+    ∷ HomePlain p
+    ∷ EntryPlaced p
+    ∷ PathLinked p
+    ∷ PathEnds p
+    ∷ PathClear p
+    ∷ PointsListed p
+    ∷ PointsClear p
+    ∷ ReleasesFit p
+    ∷ EntryClear p
+    ∷ []
+
+-- rule k says so of row i
+unfoldable pub Says : Plan → ℕ → ℕ → Type 0
+Says p k i = getD (sentences p) k (λ i. Unit) i
+
+-- rule k is the lowest that is broken, and i its lowest row: the rules below k hold everywhere, rule k holds at the rows below i and fails at i
+pub record Breaks (p : Plan) (k i : ℕ) : Type 0 where
+  pub lower : (j row : ℕ) → j < k → row < ruleOf p j .rows → Says p j row
+  pub inside : i < ruleOf p k .rows
+  pub before : (row : ℕ) → row < i → Says p k row
+  pub fails : Says p k i → ⊥
