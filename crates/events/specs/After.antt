@@ -1,7 +1,7 @@
 -- The state after an answer, array by array: each is a function of that array, the plan and the answer alone.
 use mathlib.Core.Bool.{Bool, cond, _&&_}
 use mathlib.Core.List.{List}
-use Prim.Native.Nat.{ℕ, zero, suc}
+use Prim.Native.Nat.{ℕ, zero, suc, _<_}
 use lib.ListN.{length, getD}
 use lib.Dec.{eqb, ltb}
 use Rattle.laws.specs.Lists.{anyOf}
@@ -95,3 +95,13 @@ newSignals p signals (Left train u) = tab mostSignals (reddened p u signals)
 
 unfoldable pub after : Plan → State → Answer → State
 after p σ a = stateOf (newTrains (σ .trains) a) (newLies p (σ .lies) a) (newHolds p (σ .holds) a) (newSignals p (σ .signals) a)
+
+-- An answer that a plan can be acted on for: what it names is there.
+unfoldable pub Acts : Plan → Answer → Type 0
+Acts p (Refused refusal) = Unit
+Acts p (Accident harm) = Unit
+Acts p (Granted r) = r < length (p .routes)
+Acts p (Cancelled r) = r < length (p .routes)
+Acts p (Entered train u) = u < length (p .tracks)
+Acts p (Moved train u v) = (u < length (p .tracks)) × (v < length (p .tracks))
+Acts p (Left train u) = u < length (p .tracks)

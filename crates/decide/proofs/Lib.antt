@@ -1,0 +1,4 @@
+pub mod Cells
+pub mod Chains
+pub mod Within
+pub mod Acting

@@ -1,0 +1,52 @@
+-- `tests::front_of`: what is found from the place on is what is found from the start.
+use mathlib.Core.Path.{_≡_, sym, _∙_}
+use Prim.Native.Nat.{_-_}
+use Rattle.laws.specs.Search.{lowest, lowestFrom, lowest-start, lowest-hit, lowest-miss, lowest-end}
+use borrow.Author.Tests.{eq-eqb, ne-eqb}
+use Rattle.events.specs.Decide.{stands}
+use borrow.Author.Needs.{needs}
+use Rattle.decide.proofs.tests.front_of.Statement.{statement}
+use Rattle.decide.proofs.tests.front_of.Tie as tie
+
+abbrev Inv-loop : tie.InvT-loop
+Inv-loop count trains train front₀ front = lowestFrom (stands trains train) (count - front) front ≡ lowest count (stands trains train)
+
+abbrev μ-loop : tie.MeasureT-loop
+μ-loop count trains train front₀ front = count - front
+
+loop-holds : tie.Need-loop-holds Inv-loop μ-loop
+loop-holds c = lowest-start _ _
+
+element-copy-out-if1 : tie.Need-element-copy-out-if1 Inv-loop μ-loop
+element-copy-out-if1 c = search needs
+
+returns : tie.Need-returns Inv-loop μ-loop
+unfolding stands
+returns c = sym (lowest-hit _ _ _ (c .before .before .loop-test .taken) (eq-eqb _ _ (c .if1 .taken))) ∙ c .before .before .before .loop .inv
+
+add-front : tie.Need-add-front Inv-loop μ-loop
+add-front c = search needs
+
+loop-less : tie.Need-loop-less Inv-loop μ-loop
+loop-less c = search needs
+
+loop-again : tie.Need-loop-again Inv-loop μ-loop
+unfolding stands
+loop-again c = sym (lowest-miss _ _ _ (c .before .before .loop-test .taken) (ne-eqb _ _ (c .if1 .left))) ∙ c .before .before .before .loop .inv
+
+returns-2 : tie.Need-returns-2 Inv-loop μ-loop
+returns-2 c = sym (lowest-end _ _ _ (c .loop-test .left)) ∙ c .before .loop .inv
+
+pub front-of-spec : {M : Type 1} → statement M
+front-of-spec =
+    tie.close
+    (tie.spec
+    Inv-loop
+    μ-loop
+    loop-holds
+    element-copy-out-if1
+    returns
+    add-front
+    loop-less
+    loop-again
+    returns-2)

@@ -1,0 +1,51 @@
+-- `tests::held_point`: what is found from the place on is what is found from the start.
+use mathlib.Core.Path.{_≡_, sym, _∙_}
+use Prim.Native.Nat.{_-_}
+use Rattle.laws.specs.Search.{lowest, lowestFrom, lowest-start, lowest-hit, lowest-miss, lowest-end}
+use Rattle.events.specs.Decide.{heldListed, heldPoint}
+use borrow.Author.Needs.{needs}
+use Rattle.decide.proofs.tests.held_point.Statement.{statement}
+use Rattle.decide.proofs.tests.held_point.Tie as tie
+
+abbrev Inv-loop : tie.InvT-loop
+Inv-loop count normal reverse holds point₀ point = lowestFrom (heldListed normal reverse holds) (count - point) point ≡ lowest count (heldListed normal reverse holds)
+
+abbrev μ-loop : tie.MeasureT-loop
+μ-loop count normal reverse holds point₀ point = count - point
+
+loop-holds : tie.Need-loop-holds Inv-loop μ-loop
+loop-holds c = lowest-start _ _
+
+held-listed-requires : tie.Need-held-listed-requires Inv-loop μ-loop
+held-listed-requires c κs = search needs
+
+returns : tie.Need-returns Inv-loop μ-loop
+unfolding heldPoint
+returns c = sym (lowest-hit _ _ _ (c .before .before .loop-test .taken) (sym (c .before .held-listed .ensures) ∙ c .if1 .taken)) ∙ c .before .before .before .loop .inv
+
+add-point : tie.Need-add-point Inv-loop μ-loop
+add-point c = search needs
+
+loop-less : tie.Need-loop-less Inv-loop μ-loop
+loop-less c = search needs
+
+loop-again : tie.Need-loop-again Inv-loop μ-loop
+loop-again c = sym (lowest-miss _ _ _ (c .before .before .loop-test .taken) (sym (c .before .held-listed .ensures) ∙ c .if1 .left)) ∙ c .before .before .before .loop .inv
+
+returns-2 : tie.Need-returns-2 Inv-loop μ-loop
+unfolding heldPoint
+returns-2 c = sym (lowest-end _ _ _ (c .loop-test .left)) ∙ c .before .loop .inv
+
+pub held-point-spec : {M : Type 1} → statement M
+held-point-spec =
+    tie.close
+    (tie.spec
+    Inv-loop
+    μ-loop
+    loop-holds
+    held-listed-requires
+    returns
+    add-point
+    loop-less
+    loop-again
+    returns-2)
