@@ -25,7 +25,7 @@ use Rattle.events.proofs.Given.{given}
 
 module _ (p : Plan) (σ : State) (W : WellFormed p σ) where
   -- a train stands on a track of the plan
-  train-below : (u : ℕ) → HasTrain σ u → u < length (p .tracks)
+  pub train-below : (u : ℕ) → HasTrain σ u → u < length (p .tracks)
   train-below u t = elim (below? u (length (p .tracks))) [ inl h ↦ h | inr h ↦ absurd (t (W .trainsEnd u h)) ]
 
   -- Where points lie as before, no hold is new and no green is new, only the trains are to be asked.
@@ -156,7 +156,7 @@ module _ (p : Plan) (R : Readable p) (σ : State) where
   same-state : {τ : State} → τ ≡ σ → WellFormed p σ → WellFormed p τ
   same-state e W = rw e W
 
-  next-below : (u v : ℕ) → u < length (p .tracks) → (Is (isExit p u) → ⊥) → Next p σ u v → v < length (p .tracks)
+  pub next-below : (u v : ℕ) → u < length (p .tracks) → (Is (isExit p u) → ⊥) → Next p σ u v → v < length (p .tracks)
   next-below u v h x (inl w) = rw (← w .1) (out-below p R u false h x)
   next-below u v h x (inr w) = rw (← w .1) (out-below p R u true h x)
 

@@ -4,4 +4,3 @@ pub mod Reflect
 pub mod Given
 pub mod Views
 pub mod Kept
-pub mod Agree

@@ -1,0 +1,104 @@
+-- A box that obeys the written rules is safe on every accepted plan: along a run each step keeps the state well formed, the invariant and what
+-- demand 3 says of the answers so far.
+use mathlib.Core.Path.{_≡_, refl, ap}
+use mathlib.Core.List.{List, [], _∷_, _++_, append-assoc, append-nil}
+use Prim.Native.Nat.{ℕ, zero, suc}
+use native.Mathlib.Omega.{arith}
+use lib.ListN.{take}
+use Rattle.laws.specs.Tests.{never}
+use Rattle.laws.specs.Lists.{All}
+use Rattle.plan.specs.Records.{Plan}
+use Rattle.plan.specs.File.{Readable}
+use Rattle.rules.specs.Sentences.{Sound}
+use Rattle.state.specs.declared.State.{State}
+use Rattle.state.specs.State.{WellFormed, fresh}
+use Rattle.events.specs.declared.Event.{Event}
+use Rattle.events.specs.declared.Refusal.the-variants.{IllFormed}
+use Rattle.events.specs.declared.Answer.{Answer}
+use Rattle.events.specs.declared.Answer.the-variants.{Refused, Granted}
+use Rattle.events.specs.Meaning.{Given}
+use Rattle.demands.specs.Demands.{Box, Follows, Demand2, history, reached, total, Safe, Demand3}
+use Rattle.demands.proofs.Formed.{stays, fresh-formed, no-train, no-hold}
+use Rattle.demands.proofs.Invariant.{Invariant, fresh-invariant}
+use Rattle.demands.proofs.Accidents.{no-accident}
+use Rattle.demands.proofs.Steps.{keeps}
+use Rattle.demands.proofs.Counting.{shown-none, shown-most, shown-train, counts}
+use Rattle.demands.proofs.History.{all-last, held-after, single-after}
+
+-- The history of the first n events is the first n answers.
+pub history-first : (box : Box) (p : Plan) (σ : State) (events : List Event) (n : ℕ) → history box p σ (take n events) ≡ take n (history box p σ events)
+unfolding history
+history-first box p σ [] zero = refl
+history-first box p σ [] (suc n) = refl
+history-first box p σ (event ∷ events) zero = refl
+history-first box p σ (event ∷ events) (suc n) = ap (λ h. box .answer p σ event ∷ h) (history-first box p (box .next p σ event) events n)
+
+-- What every answer and next state keep holds along a run.
+along : (box : Box) (p : Plan) (Kept : List Answer → State → Type 0)
+    → ((h : List Answer) (σ : State) (event : Event) → Kept h σ → Kept (h ++ (box .answer p σ event ∷ [])) (box .next p σ event))
+    → (h : List Answer) (σ : State) → Kept h σ → (events : List Event) → Kept (h ++ history box p σ events) (reached box p σ events)
+unfolding history reached
+along box p Kept step h σ k [] = rw (append-nil h) k
+along box p Kept step h σ k (event ∷ events) =
+    rw (append-assoc h (box .answer p σ event ∷ []) (history box p (box .next p σ event) events)) at
+    (along box p Kept step (h ++ (box .answer p σ event ∷ [])) (box .next p σ event) (step h σ event k) events)
+
+-- what is kept
+record Kept (p : Plan) (h : List Answer) (σ : State) : Type 0 where
+  formed : WellFormed p σ
+  invariant : Invariant p σ
+  safe : Safe p h σ
+
+fresh-safe : (p : Plan) → Safe p [] fresh
+unfolding total All
+fresh-safe p = record {
+  counted = λ u. omega (arith, shown-none fresh u (no-train u));
+  shownMost = shown-most fresh;
+  shownTrain = shown-train fresh;
+  single = λ q r x h k. absurd (no-hold q x h);
+  held = λ r x. (λ h. absurd (no-hold r x h), λ w. absurd (no-split (Granted r) (w .1 .earlier) (w .1 .later) (w .1 .splits)));
+  unharmed = tt;
+  formed = tt;
+}
+  where
+    no-split : (a : Answer) (earlier later : List Answer) → [] ≡ earlier ++ (a ∷ later) → ⊥
+    no-split a [] later e = never (cc)
+    no-split a (b ∷ earlier) later e = never (cc)
+
+module _ (p : Plan) (reads : Readable p) (sound : Sound p) where
+  safe-after : {event : Event} (h : List Answer) (σ τ : State) (a : Answer) → WellFormed p σ → Invariant p σ → Safe p h σ → Given p σ event a → Follows p σ τ a
+      → Safe p (h ++ (a ∷ [])) τ
+  safe-after h σ τ a w inv s given f = record {
+    counted = λ u. counts σ τ h a given f u (s .counted u);
+    shownMost = shown-most τ;
+    shownTrain = shown-train τ;
+    single = single-after σ τ a given f (s .single);
+    held = λ r x. held-after p r x σ τ h a f (s .held r x);
+    unharmed = all-last _ h a (s .unharmed) (λ harm e. no-accident p reads sound σ inv w harm (rw e at given));
+    formed = all-last _ h a (s .formed) (λ e. ill (rw e at given));
+  }
+    where
+      ill : {event : Event} → Given p σ event (Refused IllFormed) → ⊥
+      ill (Given.row10 n) = n w
+
+  -- on this plan the box obeys the written rules, wherever it can come from fresh
+  abbrev pub Obeys : Box → Type 0
+  Obeys box = (σ : State) (event : Event) → WellFormed p σ → Invariant p σ → Given p σ event (box .answer p σ event) × Follows p σ (box .next p σ event) (box .answer p σ event)
+
+  pub obeys-safe : (box : Box) → Obeys box → (events : List Event) → Safe p (history box p fresh events) (reached box p fresh events)
+  obeys-safe box obeys events = (along box p (Kept p) step [] fresh start events) .safe
+    where
+      start : Kept p [] fresh
+      start = record { formed = fresh-formed p reads; invariant = fresh-invariant p; safe = fresh-safe p }
+
+      step : (h : List Answer) (σ : State) (event : Event) → Kept p h σ → Kept p (h ++ (box .answer p σ event ∷ [])) (box .next p σ event)
+      step h σ event k =
+          let (given, f) = obeys σ event (k .formed) (k .invariant) in
+          record {
+            formed = stays σ (box .next p σ event) reads (k .formed) (box .answer p σ event) given f;
+            invariant = keeps reads sound (k .formed) (k .invariant) (box .answer p σ event) given f;
+            safe = safe-after h σ (box .next p σ event) (box .answer p σ event) (k .formed) (k .invariant) (k .safe) given f;
+          }
+
+pub demand2→demand3 : (box : Box) → Demand2 box → Demand3 box
+demand2→demand3 box d p reads sound = obeys-safe p reads sound box (λ σ event w inv. (d .answers p reads σ event, d .states p reads σ event))

@@ -1,0 +1,17 @@
+pub mod Cases
+pub mod Facts
+pub mod Follow
+pub mod Formed
+pub mod Invariant
+pub mod Accidents
+pub mod Steps
+pub mod Counting
+pub mod History
+pub mod Demand3
+pub mod Chain
+pub mod Agreement
+pub mod Once
+pub mod Verdicts
+pub mod Small
+pub mod Impostors
+pub mod Ours

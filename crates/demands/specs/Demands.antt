@@ -1,0 +1,150 @@
+-- The demands on a box, as document 01 makes them, stated of any box: what it answers and its next state, for a plan, a state and an event. Each is
+-- followed by the theorem, in proofs/, that speaks of it. The page rests on these definitions, and on nothing else:
+--   plan/specs/Records.antt      Plan; plan/specs/File.antt: Readable, the plans that a file can hold
+--   rules/specs/Sentences.antt   Sound, the twelve plan rules, each as its sentence for every row; Breaks, the lowest broken rule and row; Exactly
+--   rules/specs/Rules.antt       ruleNumber and ruleRow, the document's numbers of a Verdict (rules/src/lib.rt)
+--   state/specs/State.antt       State (state/src/lib.rt) and its views trainAt, HasTrain, Holds; fresh; WellFormed
+--   events/src/lib.rt            Event, Answer, Refusal, Harm; events/specs/Events.antt: eventsOf, the events of any bytes
+--   events/specs/Meaning.antt    Given, the table of answers; AfterGrant, AfterCancel, AfterEntry, AfterMove, AfterLeaving, SameTrains and so on:
+--                                what a state shows after an answer; Listed, Releases: what a route lists and gives back; Alike
+--   laws/specs/Lists.antt        All: each element of a list is so
+use mathlib.Core.Path.{_≡_}
+use mathlib.Core.Bool.{cond}
+use mathlib.Core.Logic.{_≢_}
+use mathlib.Core.List.{List, [], _∷_, _++_}
+use Prim.Native.Nat.{ℕ, _+_, _≤_}
+use lib.Dec.{eqb}
+use Rattle.laws.specs.Lists.{All}
+use Rattle.plan.specs.Records.{Plan}
+use Rattle.plan.specs.File.{Readable}
+use Rattle.rules.specs.declared.Verdict.{Verdict}
+use Rattle.rules.specs.declared.Verdict.the-variants.{Accepted}
+use Rattle.rules.specs.Rules.{ruleNumber, ruleRow}
+use Rattle.rules.specs.Sentences.{Exactly, Sound, Breaks}
+use Rattle.state.specs.declared.State.{State}
+use Rattle.state.specs.State.{noTrain, trainAt, HasTrain, Holds, WellFormed, fresh}
+use Rattle.events.specs.declared.Event.{Event}
+use Rattle.events.specs.declared.Event.the-variants.{Request}
+use Rattle.events.specs.declared.Refusal.the-variants.{IllFormed}
+use Rattle.events.specs.declared.Harm.{Harm}
+use Rattle.events.specs.declared.Answer.{Answer}
+use Rattle.events.specs.declared.Answer.the-variants.{Refused, Accident, Granted, Cancelled, Entered, Moved, Left}
+use Rattle.events.specs.Meaning.{Given, AfterGrant, AfterCancel, AfterEntry, AfterMove, AfterLeaving, Listed, Releases, Alike, SameTrains, SameLies, SameHolds, SameSignals}
+
+pub record Box : Type 0 where
+  pub answer : Plan → State → Event → Answer
+  pub next : Plan → State → Event → State
+
+-- Demand 2: exactly the written answer, and exactly the written next state.
+
+-- the state τ after an answer: a refusal or an accident changes nothing at all
+abbrev pub Follows : Plan → State → State → Answer → Type 0
+Follows p σ τ (Refused refusal) = τ ≡ σ
+Follows p σ τ (Accident harm) = τ ≡ σ
+Follows p σ τ (Granted r) = AfterGrant p σ τ r
+Follows p σ τ (Cancelled r) = AfterCancel p σ τ r
+Follows p σ τ (Entered train u) = AfterEntry σ τ train u
+Follows p σ τ (Moved train u v) = AfterMove p σ τ train u v
+Follows p σ τ (Left train u) = AfterLeaving p σ τ u
+
+pub record Demand2 (box : Box) : Type 0 where
+  pub answers : (p : Plan) → Readable p → (σ : State) (event : Event) → Given p σ event (box .answer p σ event)
+  pub states : (p : Plan) → Readable p → (σ : State) (event : Event) → Follows p σ (box .next p σ event) (box .answer p σ event)
+
+-- No choice is left (proofs/Once.antt, no-choice): two boxes that meet demand 2 answer alike, and their next states show the same in every cell.
+
+pub record SameState (σ τ : State) : Type 0 where
+  pub trains : SameTrains σ τ
+  pub lies : SameLies σ τ
+  pub holds : SameHolds σ τ
+  pub signals : SameSignals σ τ
+
+abbrev pub NoChoice : Type 0
+NoChoice =
+    (box other : Box) → Demand2 box → Demand2 other → (p : Plan) → Readable p → (σ : State) (event : Event)
+    → (box .answer p σ event ≡ other .answer p σ event) × SameState (box .next p σ event) (other .next p σ event)
+
+-- Demand 2 of the verdict on a plan: accepted exactly when the twelve sentences hold, else the lowest broken rule with its lowest row.
+pub record Judges (verdict : Plan → Verdict) : Type 0 where
+  pub accepted : (p : Plan) → Readable p → Exactly (verdict p ≡ Accepted) (Sound p)
+  pub broken : (p : Plan) → Readable p → verdict p ≢ Accepted → Breaks p (ruleNumber (verdict p)) (ruleRow (verdict p))
+
+-- A run: the answers to a list of events, the first one first, and the state reached.
+module _ (box : Box) (p : Plan) where
+  unfoldable pub history : State → List Event → List Answer
+  history σ [] = []
+  history σ (event ∷ events) = box .answer p σ event ∷ history (box .next p σ event) events
+
+  unfoldable pub reached : State → List Event → State
+  reached σ [] = σ
+  reached σ (event ∷ events) = reached (box .next p σ event) events
+
+-- Comings and goings, from the answers alone.
+
+-- 1 where the two tracks are one, else 0
+abbrev pub onceAt : ℕ → ℕ → ℕ
+onceAt u v = cond (eqb u v) 1 0
+
+-- an entry comes onto its track, a move onto the track entered
+unfoldable pub comes : ℕ → Answer → ℕ
+comes u (Refused refusal) = 0
+comes u (Accident harm) = 0
+comes u (Granted r) = 0
+comes u (Cancelled r) = 0
+comes u (Entered train v) = onceAt u v
+comes u (Moved train w v) = onceAt u v
+comes u (Left train w) = 0
+
+-- a move goes from the track left, and so does a train that leaves
+unfoldable pub goes : ℕ → Answer → ℕ
+goes u (Refused refusal) = 0
+goes u (Accident harm) = 0
+goes u (Granted r) = 0
+goes u (Cancelled r) = 0
+goes u (Entered train v) = 0
+goes u (Moved train w v) = onceAt u w
+goes u (Left train w) = onceAt u w
+
+unfoldable pub total : (Answer → ℕ) → List Answer → ℕ
+total f [] = 0
+total f (answer ∷ answers) = f answer + total f answers
+
+-- how many trains the state has on a track
+unfoldable pub shown : State → ℕ → ℕ
+shown σ u = cond (eqb (trainAt σ u) noTrain) 0 1
+
+-- Holds, from the answers alone: the route was granted and, after its latest grant, was not cancelled, and no train moved onto a release track
+-- of the point.
+pub record SinceGrant (p : Plan) (r x : ℕ) (answers : List Answer) : Type 0 where
+  pub earlier : List Answer
+  pub later : List Answer
+  pub splits : answers ≡ earlier ++ (Granted r ∷ later)
+  pub latest : All (λ answer. answer ≢ Granted r) later
+  pub uncancelled : All (λ answer. answer ≢ Cancelled r) later
+  pub unreleased : All (λ answer. (train u v : ℕ) → answer ≡ Moved train u v → Releases p v x r → ⊥) later
+
+-- Demand 3, of the answers so far and the state.
+pub record Safe (p : Plan) (answers : List Answer) (σ : State) : Type 0 where
+  -- for each track, what came is what went and what is shown: no train or one, and one exactly if the state has a train there
+  pub counted : (u : ℕ) → total (comes u) answers ≡ total (goes u) answers + shown σ u
+  pub shownMost : (u : ℕ) → shown σ u ≤ 1
+  pub shownTrain : (u : ℕ) → Exactly (shown σ u ≡ 1) (HasTrain σ u)
+  -- each point is held by at most one route, and exactly as the answers say
+  pub single : (q r x : ℕ) → Holds σ q x → Holds σ r x → q ≡ r
+  pub held : (r x : ℕ) → Exactly (Holds σ r x) (Listed p r x × SinceGrant p r x answers)
+  -- no 40, 41 or 42 was answered (an Accident is one of these), and no 10 (IllFormed): events/specs/Answers.antt has the numbers
+  pub unharmed : All (λ answer. (harm : Harm) → answer ≢ Accident harm) answers
+  pub formed : All (λ answer. answer ≢ Refused IllFormed) answers
+
+-- On every plan that reads and is accepted, from the fresh state, after any events. A list of events after each of its events is again such a list,
+-- and its history the beginning of the whole one (proofs/Demand3.antt, history-first); the events of any bytes are such a list too.
+-- Every box that meets demand 2 meets it (proofs/Demand3.antt, demand2→demand3).
+abbrev pub Demand3 : Box → Type 0
+Demand3 box = (p : Plan) → Readable p → Sound p → (events : List Event) → Safe p (history box p fresh events) (reached box p fresh events)
+
+-- Agreement: two well-formed states that agree on what a request looks at give it the same answer. Every box that meets demand 2 is so
+-- (proofs/Agreement.antt, demand2→agreement).
+abbrev pub Agreement : Box → Type 0
+Agreement box =
+    (p : Plan) → Readable p → (r : ℕ) (σ τ : State) → WellFormed p σ → WellFormed p τ → Alike p r σ τ
+    → box .answer p σ (Request r) ≡ box .answer p τ (Request r)

@@ -1,0 +1,30 @@
+-- Our box: what the code of the rooms below answers and leaves, as their contracts say it, and what is shown of it. The demands stand in
+-- Demands.antt; the proofs in proofs/Ours.antt.
+use mathlib.Core.Path.{_≡_}
+use mathlib.Core.List.{List}
+use Prim.Native.Nat.{ℕ}
+use Rattle.plan.specs.Records.{Plan}
+use Rattle.scan.specs.Reading.{got, parse}
+use Rattle.rules.specs.declared.Verdict.the-variants.{Accepted}
+use Rattle.rules.specs.Rules.{verdict}
+use Rattle.state.specs.State.{fresh}
+use Rattle.events.specs.declared.Event.{Event}
+use Rattle.events.specs.Events.{eventsOf}
+use Rattle.events.specs.Decide.{answer}
+use Rattle.events.specs.After.{after}
+use Rattle.demands.specs.Demands.{Box, Demand2, Demand3, Judges, Agreement, Safe, history, reached}
+
+-- the answer of events/specs/Decide.antt, and the state of events/specs/After.antt that goes by it
+abbrev pub ours : Box
+ours = record { answer = answer; next = λ p σ event. after p σ (answer p σ event) }
+
+pub record Shown : Type 0 where
+  -- demand 2: exactly the written answer and next state; accepted exactly when the twelve sentences hold, else the lowest rule and row
+  pub exact : Demand2 ours
+  pub judged : Judges verdict
+  -- demand 3, of every plan that is accepted, and so of every file that reads as one and of any bytes as events
+  pub safe : Demand3 ours
+  pub file-safe : (file bytes : List ℕ) {p : Plan} {at : ℕ} {rest : List ℕ} → parse file ≡ got p at rest → verdict p ≡ Accepted
+      → Safe p (history ours p fresh (eventsOf bytes)) (reached ours p fresh (eventsOf bytes))
+  -- two states that agree on what a request looks at
+  pub agrees : Agreement ours
