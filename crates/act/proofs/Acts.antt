@@ -151,11 +151,11 @@ module _ (p : Plan) (m : List ℕ) where
 
 -- Trains.
 module _ (m : List ℕ) (long : length m ≡ mostTracks) where
-  pub stood-set : (train u : ℕ) → set m u train ≡ tab mostTracks (stood train u m)
+  stood-set : (train u : ℕ) → set m u train ≡ tab mostTracks (stood train u m)
   unfolding stood
   stood-set train u = written m u train ∙ ap (λ (n : ℕ). tab n (stood train u m)) long
 
-  pub gone-set : (u : ℕ) → set m u noTrain ≡ tab mostTracks (gone u m)
+  gone-set : (u : ℕ) → set m u noTrain ≡ tab mostTracks (gone u m)
   unfolding gone
   gone-set u = written m u noTrain ∙ ap (λ (n : ℕ). tab n (gone u m)) long
 

@@ -12,7 +12,7 @@ use plan::limits::SIGNALS;
 use plan::limits::TRACKS;
 use state::HoldSet;
 ghost use mathlib.Core.Path.{_≡_};
-ghost use Prim.Native.Nat.{_<_, _≤_};
+ghost use Prim.Native.Nat.{_<_};
 ghost use lib.ListN.{length};
 ghost use Rattle.laws.specs.Lists.{All};
 ghost use Rattle.laws.specs.Tables.{tab};
@@ -62,7 +62,7 @@ fn act_trains(trains: &mut [u8], answer: Answer)
             trains[to] = train;
             trains[from] = NO_TRAIN;
         }
-        Answer::Left { train: _, from } => {
+        Answer::Left { from, .. } => {
             trains[from] = NO_TRAIN;
         }
         Answer::Refused(_) | Answer::Accident(_) | Answer::Granted(_) | Answer::Cancelled(_) => {}
@@ -92,11 +92,7 @@ fn act_holds(image: &[u8; IMAGE], holds: &mut [u64], answer: Answer)
             take(reverse_of(image, route), route, holds);
         }
         Answer::Cancelled(route) => drop_all(route, holds),
-        Answer::Moved {
-            train: _,
-            from: _,
-            to,
-        } => arrive(image, to, holds),
+        Answer::Moved { to, .. } => arrive(image, to, holds),
         Answer::Refused(_) | Answer::Accident(_) | Answer::Entered { .. } | Answer::Left { .. } =>
             {}
     }
@@ -116,12 +112,8 @@ fn act_signals(image: &[u8; IMAGE], signals: &mut [u8], answer: Answer)
             let start = start_of(image, route);
             signals[start] = RED;
         }
-        Answer::Moved {
-            train: _,
-            from,
-            to: _,
-        } => redden(image, from, signals),
-        Answer::Left { train: _, from } => redden(image, from, signals),
+        Answer::Moved { from, .. } => redden(image, from, signals),
+        Answer::Left { from, .. } => redden(image, from, signals),
         Answer::Refused(_) | Answer::Accident(_) | Answer::Entered { .. } => {}
     }
 }

@@ -17,7 +17,8 @@ normal-of-requires c κs = search needs
 take-requires : tie.Need-take-requires
 take-requires c κs =
     let start = c .before .before .before .before .before .before in
-    granted-normal _ _ (start .pre .0) (c .before .before .before .answer .given .1) (start .args .holds .now) (start .pre .1) (c .before .normal-of .ensures)
+    granted-normal _ _ (start .pre .0) (c .before .before .before .answer .given .1) (start .args .holds .now) (start .pre .1)
+    (c .before .normal-of .ensures)
 
 reverse-of-requires : tie.Need-reverse-of-requires
 reverse-of-requires c κs = search needs
@@ -25,7 +26,9 @@ reverse-of-requires c κs = search needs
 take-requires-2 : tie.Need-take-requires-2
 take-requires-2 c κs =
     let start = c .before .before .before .before .before .before .before .before .before .before .before in
-    granted-reverse _ _ (start .pre .0) (c .before .before .before .before .before .before .before .before .answer .given .1) (c .before .before .before .before .take .last .1 .1 .0) (ap length (c .before .before .before .before .take .ensures) ∙ length-tab _ _ ∙ start .pre .1) (c .before .reverse-of .ensures)
+    granted-reverse _ _ (start .pre .0) (c .before .before .before .before .before .before .before .before .answer .given .1)
+    (c .before .before .before .before .take .last .1 .1 .0)
+    (ap length (c .before .before .before .before .take .ensures) ∙ length-tab _ _ ∙ start .pre .1) (c .before .reverse-of .ensures)
 
 enum-known-answer-2 : tie.Need-enum-known-answer-2
 enum-known-answer-2 c = search needs
@@ -43,19 +46,28 @@ same-length : tie.Need-same-length
 same-length c = search needs
 
 returns : tie.Need-returns
-returns c = granted-holds _ _ _ (c .before .before .before .before .before .before .before .before .before .before .before .before .before .before .pre .1) (c .before .before .before .before .before .before .before .before .before .before .before .answer .given .1) (c .before .before .before .before .before .before .before .before .before .normal-of .ensures) (c .before .before .before .before .reverse-of .ensures) _ _ (c .before .before .before .before .before .before .before .take .ensures) (c .before .before .take2 .ensures)
+returns c =
+    granted-holds _ _ _ (c .before .before .before .before .before .before .before .before .before .before .before .before .before .before .pre .1)
+    (c .before .before .before .before .before .before .before .before .before .before .before .answer .given .1)
+    (c .before .before .before .before .before .before .before .before .before .normal-of .ensures)
+    (c .before .before .before .before .reverse-of .ensures) _ _ (c .before .before .before .before .before .before .before .take .ensures)
+    (c .before .before .take2 .ensures)
 
 same-length-2 : tie.Need-same-length-2
 same-length-2 c = search needs
 
 returns-2 : tie.Need-returns-2
-returns-2 c = cancelled-holds _ _ _ (c .before .before .before .before .before .before .before .before .pre .1) (c .before .before .before .before .before .answer2 .given .1) (c .before .before .drop-all .ensures)
+returns-2 c =
+    cancelled-holds _ _ _ (c .before .before .before .before .before .before .before .before .pre .1)
+    (c .before .before .before .before .before .answer2 .given .1) (c .before .before .drop-all .ensures)
 
 same-length-3 : tie.Need-same-length-3
 same-length-3 c = search needs
 
 returns-3 : tie.Need-returns-3
-returns-3 c = moved-holds _ _ _ (c .before .before .before .before .before .before .before .before .pre .1) (c .before .before .before .before .before .answer3 .given .1) (c .before .before .arrive .ensures)
+returns-3 c =
+    moved-holds _ _ _ (c .before .before .before .before .before .before .before .before .pre .1)
+    (c .before .before .before .before .before .answer3 .given .1) (c .before .before .arrive .ensures)
 
 returns-4 : tie.Need-returns-4
 returns-4 c = holds-kept _ _ (c .before .before .args .answer) (c .match .keys4)

@@ -20,7 +20,8 @@ normal-of-requires c κs = search needs
 turn-requires : tie.Need-turn-requires
 turn-requires c κs =
     let start = c .before .before .before .before .before .before in
-    granted-normal _ _ (start .pre .0) (c .before .before .before .answer .given .1) (start .args .lies .now) (start .pre .1) (c .before .normal-of .ensures)
+    granted-normal _ _ (start .pre .0) (c .before .before .before .answer .given .1) (start .args .lies .now) (start .pre .1)
+    (c .before .normal-of .ensures)
 
 reverse-of-requires : tie.Need-reverse-of-requires
 reverse-of-requires c κs = search needs
@@ -28,13 +29,20 @@ reverse-of-requires c κs = search needs
 turn-requires-2 : tie.Need-turn-requires-2
 turn-requires-2 c κs =
     let start = c .before .before .before .before .before .before .before .before .before .before .before in
-    granted-reverse _ _ (start .pre .0) (c .before .before .before .before .before .before .before .before .answer .given .1) (c .before .before .before .before .turn .last .1 .1 .0) (ap length (c .before .before .before .before .turn .ensures) ∙ length-tab _ _ ∙ start .pre .1) (c .before .reverse-of .ensures)
+    granted-reverse _ _ (start .pre .0) (c .before .before .before .before .before .before .before .before .answer .given .1)
+    (c .before .before .before .before .turn .last .1 .1 .0)
+    (ap length (c .before .before .before .before .turn .ensures) ∙ length-tab _ _ ∙ start .pre .1) (c .before .reverse-of .ensures)
 
 same-length : tie.Need-same-length
 same-length c = search needs
 
 returns-2 : tie.Need-returns-2
-returns-2 c = granted-lies _ _ _ (c .before .before .before .before .before .before .before .before .before .before .before .before .before .before .pre .1) (c .before .before .before .before .before .before .before .before .before .before .before .answer .given .1) (c .before .before .before .before .before .before .before .before .before .normal-of .ensures) (c .before .before .before .before .reverse-of .ensures) _ _ (c .before .before .before .before .before .before .before .turn .ensures) (c .before .before .turn2 .ensures)
+returns-2 c =
+    granted-lies _ _ _ (c .before .before .before .before .before .before .before .before .before .before .before .before .before .before .pre .1)
+    (c .before .before .before .before .before .before .before .before .before .before .before .answer .given .1)
+    (c .before .before .before .before .before .before .before .before .before .normal-of .ensures)
+    (c .before .before .before .before .reverse-of .ensures) _ _ (c .before .before .before .before .before .before .before .turn .ensures)
+    (c .before .before .turn2 .ensures)
 
 pub act-lies-spec : {M : Type 1} → statement M
 act-lies-spec =

@@ -60,7 +60,8 @@ same-length-2 : tie.Need-same-length-2
 same-length-2 c = search needs
 
 returns-2 : tie.Need-returns-2
-returns-2 c = cancelled-signals _ _ _ (c .before .before .before .before .before .pre .1) (c .before .before .answer2 .given .1) (c .start-of2 .ensures)
+returns-2 c =
+    cancelled-signals _ _ _ (c .before .before .before .before .before .pre .1) (c .before .before .answer2 .given .1) (c .start-of2 .ensures)
 
 same-length-3 : tie.Need-same-length-3
 same-length-3 c = search needs

@@ -30,7 +30,8 @@ releases-of-requires c κs = search needs
 give-back-requires : tie.Need-give-back-requires Inv-loop μ-loop
 give-back-requires c κs =
     let at = c .before .before .before in
-    releases-below _ (c .before .before .before .before .before .before .pre .0) _ (omega (arith, c .before .before .before .before .routes .ensures)) (at .loop .holds) (ap length (at .loop .inv .1) ∙ length-tab _ _) (c .before .releases-of .ensures)
+    releases-below _ (c .before .before .before .before .before .before .pre .0) _ (omega (arith, c .before .before .before .before .routes .ensures))
+    (at .loop .holds) (ap length (at .loop .inv .1) ∙ length-tab _ _) (c .before .releases-of .ensures)
 
 add-r : tie.Need-add-r Inv-loop μ-loop
 add-r c = search needs
@@ -39,7 +40,8 @@ loop-less : tie.Need-loop-less Inv-loop μ-loop
 loop-less c = search needs
 
 loop-again : tie.Need-loop-again Inv-loop μ-loop
-loop-again c = (search needs, c .before .before .give-back .ensures ∙ back-more _ _ _ _ _ _ (c .before .before .before .before .before .before .loop .inv .1) (c .before .before .before .before .releases-of .ensures))
+loop-again c =
+    (search needs, c .before .before .give-back .ensures ∙ back-more _ _ _ _ _ _ (c .before .before .before .before .before .before .loop .inv .1) (c .before .before .before .before .releases-of .ensures))
 
 same-length : tie.Need-same-length Inv-loop μ-loop
 same-length c = ap length (c .before .loop .inv .1) ∙ length-tab _ _ ∙ sym (c .before .before .before .before .pre .1)

@@ -42,7 +42,8 @@ loop-less : tie.Need-loop-less Inv-loop μ-loop
 loop-less c = simp length-set (omega arith)
 
 loop-again : tie.Need-loop-again Inv-loop μ-loop
-loop-again c = (simp length-set (omega arith), drop-step _ (c .before .before .before .before .before .args .holds .now) _ _ _ (c .before .before .before .loop .inv .1) (c .before .before .loop-test .taken) (c .without .ensures))
+loop-again c =
+    (simp length-set (omega arith), drop-step _ (c .before .before .before .before .before .args .holds .now) _ _ _ (c .before .before .before .loop .inv .1) (c .before .before .loop-test .taken) (c .without .ensures))
 
 same-length : tie.Need-same-length Inv-loop μ-loop
 same-length c = done-length _ (c .before .before .before .args .holds .now) _ _ (c .before .loop .inv .1)
@@ -50,7 +51,8 @@ same-length c = done-length _ (c .before .before .before .args .holds .now) _ _ 
 returns : tie.Need-returns Inv-loop μ-loop
 returns c =
     let start = c .before .before .before in
-    done-all _ (start .args .holds .now) _ _ (c .before .loop .inv .1) (λ k h l. absurd (omega (arith, done-length _ (start .args .holds .now) _ _ (c .before .loop .inv .1))))
+    done-all _ (start .args .holds .now) _ _ (c .before .loop .inv .1)
+    (λ k h l. absurd (omega (arith, done-length _ (start .args .holds .now) _ _ (c .before .loop .inv .1))))
 
 pub drop-all-spec : {M : Type 1} → statement M
 drop-all-spec =

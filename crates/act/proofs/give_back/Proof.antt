@@ -1,6 +1,6 @@
 -- `act::give_back`: the releases that are left, two numbers each, still to be acted on equal the whole.
 use mathlib.Core.Path.{_≡_, sym, ap, _∙_}
-use Prim.Native.Nat.{_+_, _-_, _≤_}
+use Prim.Native.Nat.{_-_, _≤_}
 use native.Mathlib.Omega.{arith}
 use lib.ListN.{length, drop, length-set}
 use mathlib.Core.Logic.{⊎-elim}
@@ -13,7 +13,9 @@ use Rattle.act.proofs.give_back.Statement.{statement}
 use Rattle.act.proofs.give_back.Tie as tie
 
 abbrev Inv-loop : tie.InvT-loop
-Inv-loop releases to route holds₀ i₀ holds i = (i ≤ length releases) × (length holds ≡ length holds₀) × (writes (λ x. excluding x route) (released to releases) holds₀ ≡ writes (λ x. excluding x route) (released to (drop i releases)) holds)
+Inv-loop releases to route holds₀ i₀ holds i =
+    (i ≤ length releases) × (length holds ≡ length holds₀) ×
+    (writes (λ x. excluding x route) (released to releases) holds₀ ≡ writes (λ x. excluding x route) (released to (drop i releases)) holds)
 
 abbrev μ-loop : tie.MeasureT-loop
 μ-loop releases to route holds₀ i₀ holds i = length releases - i
@@ -40,19 +42,19 @@ wide-requires-2 : tie.Need-wide-requires-2 Inv-loop μ-loop
 wide-requires-2 c κs = search needs
 
 mul-t16 : tie.Need-mul-t16 Inv-loop μ-loop
-mul-t16 c = omega (arith, all-at _ _ (c .before .before .before .before .before .before .loop .i + 1) 0 (c .before .before .before .before .before .before .before .before .before .pre) (c .before .before .before .before .before .loop-test .taken), c .before .wide2 .ensures)
+mul-t16 c = omega (arith, all-at _ _ _ 0 (c .before .before .before .before .before .before .before .before .before .pre) (c .before .before .before .before .before .loop-test .taken), c .before .wide2 .ensures)
 
 slice-read-t18 : tie.Need-slice-read-t18 Inv-loop μ-loop
-slice-read-t18 c = omega (arith, all-at _ _ (c .before .before .before .before .before .before .before .loop .i + 1) 0 (c .before .before .before .before .before .before .before .before .before .before .pre) (c .before .before .before .before .before .before .loop-test .taken), c .before .before .wide2 .ensures)
+slice-read-t18 c = omega (arith, all-at _ _ _ 0 (c .before .before .before .before .before .before .before .before .before .before .pre) (c .before .before .before .before .before .before .loop-test .taken), c .before .before .wide2 .ensures)
 
 without-requires : tie.Need-without-requires Inv-loop μ-loop
 without-requires c κs = search needs
 
 mul-holds : tie.Need-mul-holds Inv-loop μ-loop
-mul-holds c = omega (arith, all-at _ _ (c .before .before .before .before .before .before .before .before .loop .i + 1) 0 (c .before .before .before .before .before .before .before .before .before .before .before .pre) (c .before .before .before .before .before .before .before .loop-test .taken), c .before .before .before .wide2 .ensures)
+mul-holds c = omega (arith, all-at _ _ _ 0 (c .before .before .before .before .before .before .before .before .before .before .before .pre) (c .before .before .before .before .before .before .before .loop-test .taken), c .before .before .before .wide2 .ensures)
 
 slice-write-holds : tie.Need-slice-write-holds Inv-loop μ-loop
-slice-write-holds c = omega (arith, all-at _ _ (c .before .before .before .before .before .before .before .before .loop .i + 1) 0 (c .before .before .before .before .before .before .before .before .before .before .before .pre) (c .before .before .before .before .before .before .before .loop-test .taken), c .before .before .before .wide2 .ensures)
+slice-write-holds c = omega (arith, all-at _ _ _ 0 (c .before .before .before .before .before .before .before .before .before .before .before .pre) (c .before .before .before .before .before .before .before .loop-test .taken), c .before .before .before .wide2 .ensures)
 
 add-i : tie.Need-add-i Inv-loop μ-loop
 add-i c = search needs
@@ -63,8 +65,22 @@ loop-less c = search needs
 loop-again : tie.Need-loop-again Inv-loop μ-loop
 loop-again c =
     let start = c .before .before .before .before .before .before .before .before .before in
-    let at = c .before .before .before .before .before .before in
-    ⊎-elim (λ w. (omega arith, ap length (w .3) ∙ simp length-set (at .loop .inv .1), at .loop .inv .2 ∙ released-hit _ (start .args .releases .now) _ _ (at .loop .holds) (c .before .before .before .before .before .loop-test .taken) _ _ _ (sym (c .before .before .before .wide .ensures) ∙ w .0 .taken) (c .before .wide2 .ensures) (w .2 .ensures) (w .3))) (λ w. (omega arith, ap length (w .1) ∙ at .loop .inv .1, at .loop .inv .2 ∙ released-miss _ (start .args .releases .now) _ _ (at .loop .holds) (c .before .before .before .before .before .loop-test .taken) _ (λ e. w .0 .left (c .before .before .before .wide .ensures ∙ e)) (w .1))) (c .if1 .came)
+    let turn = c .before .before .before .before .before .before in
+    let more = c .before .before .before .before .before .loop-test .taken in
+    ⊎-elim
+    (λ w. (
+      omega arith,
+      ap length (w .3) ∙ simp length-set (turn .loop .inv .1),
+      turn .loop .inv .2
+          ∙ released-hit _ (start .args .releases .now) _ _ (turn .loop .holds) more _ _ _ (sym (c .before .before .before .wide .ensures) ∙ w .0 .taken) (c .before .wide2 .ensures) (w .2 .ensures) (w .3),
+    ))
+    (λ w. (
+      omega arith,
+      ap length (w .1) ∙ turn .loop .inv .1,
+      turn .loop .inv .2
+          ∙ released-miss _ (start .args .releases .now) _ _ (turn .loop .holds) more _ (λ e. w .0 .left (c .before .before .before .wide .ensures ∙ e)) (w .1),
+    ))
+    (c .if1 .came)
 
 same-length : tie.Need-same-length Inv-loop μ-loop
 same-length c = c .before .loop .inv .1

@@ -15,7 +15,8 @@ use Rattle.act.proofs.redden.Statement.{statement}
 use Rattle.act.proofs.redden.Tie as tie
 
 abbrev Inv-loop : tie.InvT-loop
-Inv-loop image from signals₀ tracks s₀ signals s = (s ≤ length tracks) × (signals ≡ tab (length signals₀) (upTo s (reddened (planOf image) from signals₀) signals₀))
+Inv-loop image from signals₀ tracks s₀ signals s =
+    (s ≤ length tracks) × (signals ≡ tab (length signals₀) (upTo s (reddened (planOf image) from signals₀) signals₀))
 
 abbrev μ-loop : tie.MeasureT-loop
 μ-loop image from signals₀ tracks s₀ signals s = length tracks - s
@@ -35,7 +36,8 @@ wide-requires c κs = search needs
 slice-write-signals : tie.Need-slice-write-signals Inv-loop μ-loop
 slice-write-signals c =
     let start = c .before .before .before .before .before .before .before in
-    omega (arith, done-length _ (start .args .signals .now) _ _ (c .before .before .before .before .loop .inv .1), start .pre, signals-most (start .args .image .now), ap length (c .before .before .before .before .before .homes .ensures), c .before .before .before .loop-test .taken)
+    omega
+    (arith, done-length _ (start .args .signals .now) _ _ (c .before .before .before .before .loop .inv .1), start .pre, signals-most (start .args .image .now), ap length (c .before .before .before .before .before .homes .ensures), c .before .before .before .loop-test .taken)
 
 add-s : tie.Need-add-s Inv-loop μ-loop
 add-s c = search needs
@@ -46,8 +48,20 @@ loop-less c = search needs
 loop-again : tie.Need-loop-again Inv-loop μ-loop
 loop-again c =
     let start = c .before .before .before .before .before .before .before in
-    let at = c .before .before .before .before in
-    ⊎-elim (λ w. (search needs, w .1 ∙ done-set _ (start .args .signals .now) _ _ (at .loop .inv .1) _ (red-here (planOf (start .args .image .now)) _ _ _ (c .before .before .before .before .before .homes .ensures) (c .before .before .before .loop-test .taken) (sym (c .before .wide .ensures) ∙ w .0 .taken)))) (λ w. (search needs, w .1 ∙ done-same _ (start .args .signals .now) _ _ (at .loop .inv .1) (red-other (planOf (start .args .image .now)) _ _ _ (c .before .before .before .before .before .homes .ensures) (λ e. w .0 .left (c .before .wide .ensures ∙ e))))) (c .if1 .came)
+    let turn = c .before .before .before .before in
+    let homes = c .before .before .before .before .before .homes .ensures in
+    ⊎-elim
+    (λ w. (
+      search needs,
+      w .1 ∙ done-set _ (start .args .signals .now) _ _ (turn .loop .inv .1) _
+          (red-here (planOf (start .args .image .now)) _ _ _ homes (c .before .before .before .loop-test .taken) (sym (c .before .wide .ensures) ∙ w .0 .taken)),
+    ))
+    (λ w. (
+      search needs,
+      w .1 ∙ done-same _ (start .args .signals .now) _ _ (turn .loop .inv .1)
+          (red-other (planOf (start .args .image .now)) _ _ _ homes (λ e. w .0 .left (c .before .wide .ensures ∙ e))),
+    ))
+    (c .if1 .came)
 
 same-length : tie.Need-same-length Inv-loop μ-loop
 same-length c = done-length _ (c .before .before .before .before .args .signals .now) _ _ (c .before .loop .inv .1)
@@ -55,7 +69,8 @@ same-length c = done-length _ (c .before .before .before .before .args .signals 
 returns : tie.Need-returns Inv-loop μ-loop
 returns c =
     let start = c .before .before .before .before in
-    done-all _ (start .args .signals .now) _ _ (c .before .loop .inv .1) (λ k h l. red-beyond (planOf (start .args .image .now)) _ _ k (c .before .before .homes .ensures) (omega arith)) ∙ rw (start .pre)
+    done-all _ (start .args .signals .now) _ _ (c .before .loop .inv .1)
+    (λ k h l. red-beyond (planOf (start .args .image .now)) _ _ k (c .before .before .homes .ensures) (omega arith)) ∙ rw (start .pre)
 
 pub redden-spec : {M : Type 1} → statement M
 redden-spec =

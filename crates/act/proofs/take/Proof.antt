@@ -13,7 +13,8 @@ use Rattle.act.proofs.take.Statement.{statement}
 use Rattle.act.proofs.take.Tie as tie
 
 abbrev Inv-loop : tie.InvT-loop
-Inv-loop list route holds₀ i₀ holds i = (i ≤ length list) × (length holds ≡ length holds₀) × (writes (λ x. adding x route) list holds₀ ≡ writes (λ x. adding x route) (drop i list) holds)
+Inv-loop list route holds₀ i₀ holds i =
+    (i ≤ length list) × (length holds ≡ length holds₀) × (writes (λ x. adding x route) list holds₀ ≡ writes (λ x. adding x route) (drop i list) holds)
 
 abbrev μ-loop : tie.MeasureT-loop
 μ-loop list route holds₀ i₀ holds i = length list - i
@@ -28,19 +29,19 @@ wide-requires : tie.Need-wide-requires Inv-loop μ-loop
 wide-requires c κs = search needs
 
 mul-t8 : tie.Need-mul-t8 Inv-loop μ-loop
-mul-t8 c = omega (arith, all-at _ _ (c .before .before .before .loop .i) 0 (c .before .before .before .before .before .before .pre) (c .before .before .loop-test .taken), c .wide .ensures)
+mul-t8 c = omega (arith, all-at _ _ _ 0 (c .before .before .before .before .before .before .pre) (c .before .before .loop-test .taken), c .wide .ensures)
 
 slice-read-t13 : tie.Need-slice-read-t13 Inv-loop μ-loop
-slice-read-t13 c = omega (arith, all-at _ _ (c .before .before .before .before .loop .i) 0 (c .before .before .before .before .before .before .before .pre) (c .before .before .before .loop-test .taken), c .before .wide .ensures)
+slice-read-t13 c = omega (arith, all-at _ _ _ 0 (c .before .before .before .before .before .before .before .pre) (c .before .before .before .loop-test .taken), c .before .wide .ensures)
 
 with-requires : tie.Need-with-requires Inv-loop μ-loop
 with-requires c κs = search needs
 
 mul-holds : tie.Need-mul-holds Inv-loop μ-loop
-mul-holds c = omega (arith, all-at _ _ (c .before .before .before .before .before .loop .i) 0 (c .before .before .before .before .before .before .before .before .pre) (c .before .before .before .before .loop-test .taken), c .before .before .wide .ensures)
+mul-holds c = omega (arith, all-at _ _ _ 0 (c .before .before .before .before .before .before .before .before .pre) (c .before .before .before .before .loop-test .taken), c .before .before .wide .ensures)
 
 slice-write-holds : tie.Need-slice-write-holds Inv-loop μ-loop
-slice-write-holds c = omega (arith, all-at _ _ (c .before .before .before .before .before .loop .i) 0 (c .before .before .before .before .before .before .before .before .pre) (c .before .before .before .before .loop-test .taken), c .before .before .wide .ensures)
+slice-write-holds c = omega (arith, all-at _ _ _ 0 (c .before .before .before .before .before .before .before .before .pre) (c .before .before .before .before .loop-test .taken), c .before .before .wide .ensures)
 
 add-i : tie.Need-add-i Inv-loop μ-loop
 add-i c = search needs

@@ -11,7 +11,8 @@ use Rattle.act.proofs.turn.Statement.{statement}
 use Rattle.act.proofs.turn.Tie as tie
 
 abbrev Inv-loop : tie.InvT-loop
-Inv-loop list lie lies₀ i₀ lies i = (i ≤ length list) × (length lies ≡ length lies₀) × (writes (λ x. lie) list lies₀ ≡ writes (λ x. lie) (drop i list) lies)
+Inv-loop list lie lies₀ i₀ lies i =
+    (i ≤ length list) × (length lies ≡ length lies₀) × (writes (λ x. lie) list lies₀ ≡ writes (λ x. lie) (drop i list) lies)
 
 abbrev μ-loop : tie.MeasureT-loop
 μ-loop list lie lies₀ i₀ lies i = length list - i
@@ -26,7 +27,7 @@ wide-requires : tie.Need-wide-requires Inv-loop μ-loop
 wide-requires c κs = search needs
 
 slice-write-lies : tie.Need-slice-write-lies Inv-loop μ-loop
-slice-write-lies c = omega (arith, all-at _ _ (c .before .before .before .loop .i) 0 (c .before .before .before .before .before .before .pre) (c .before .before .loop-test .taken), c .wide .ensures)
+slice-write-lies c = omega (arith, all-at _ _ _ 0 (c .before .before .before .before .before .before .pre) (c .before .before .loop-test .taken), c .wide .ensures)
 
 add-i : tie.Need-add-i Inv-loop μ-loop
 add-i c = search needs

@@ -1,0 +1,2 @@
+pub mod Faced
+pub mod Running

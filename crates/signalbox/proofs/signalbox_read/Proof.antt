@@ -1,0 +1,29 @@
+-- `signalbox::signalbox_read`: what reading answers, as its code.
+use denote.Ref.{now}
+use Rattle.signalbox.proofs.Faced.{read-refused, was-read, read-good}
+use borrow.Author.Needs.{needs}
+use Rattle.signalbox.proofs.signalbox_read.Statement.{statement}
+use Rattle.signalbox.proofs.signalbox_read.Tie as tie
+
+read-requires : tie.Need-read-requires
+read-requires c κs = search needs
+
+enum-known-seen : tie.Need-enum-known-seen
+enum-known-seen c = search needs
+
+form-code-requires : tie.Need-form-code-requires
+form-code-requires c κs = search needs
+
+returns : tie.Need-returns
+returns c = read-refused (now (c .before .before .before .before .before .before .before .args .file)) _ (c .before .before .before .before .read .ensures) (c .before .before .seen .given .1) (c .form-code .ensures)
+
+enum-told : tie.Need-enum-told
+enum-told c = search needs
+
+returns-2 : tie.Need-returns-2
+returns-2 c = read-good (was-read (now (c .before .before .before .before .before .args .file)) _ (c .before .before .read .ensures) (c .enum-told .given .1))
+
+pub signalbox-read-spec : {M : Type 1} → statement M
+signalbox-read-spec =
+    tie.close
+    (tie.spec read-requires enum-known-seen form-code-requires returns enum-told returns-2)

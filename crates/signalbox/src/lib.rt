@@ -1,0 +1,124 @@
+// The only public face of the box: reading a plan, checking it, one event, many events. No function asks anything of its caller: any bytes as a
+// plan, any state and any bytes as events get an answer.
+mod codes;
+
+use act::act;
+use checking::check;
+use codes::answer_code;
+use codes::form_code;
+use codes::refusal_code;
+use codes::verdict_code;
+use decide::decide;
+use events::Refusal;
+use events::event_at;
+use plan::limits::IMAGE;
+use plan::limits::SIGNALS;
+use plan::limits::TRACKS;
+use reading::read;
+use scan::Seen;
+use state::form::well_formed;
+ghost use mathlib.Core.Path.{_≡_};
+ghost use Prim.Native.Nat.{min};
+ghost use lib.ListN.{length};
+ghost use Rattle.scan.specs.Reading.{parse};
+ghost use Rattle.state.specs.State.{stateOf};
+ghost use Rattle.events.specs.Events.{firstEvent};
+ghost use Rattle.signalbox.specs.Codes.{checkCode, readCode};
+ghost use Rattle.signalbox.specs.Face.{Ran, stepCode, stepState};
+
+// Whether a file is a plan: 0, or its form's number and offset.
+#[no_mangle]
+pub extern "C" fn signalbox_read(file: &[u8]) -> u64
+    ensures { λ r. ⌜ r ≡ readCode (parse (now (file .entry))) ⌝ }
+{
+    let mut image = [0u8; IMAGE];
+    let seen = read(file, &mut image);
+    if let Seen::Refused(form) = seen {
+        return form_code(form);
+    }
+    0
+}
+
+// Whether a file is a plan that is accepted: 200, or its form's number and offset, or the broken rule's number and row.
+#[no_mangle]
+pub extern "C" fn signalbox_check(file: &[u8]) -> u64
+    ensures { λ r. ⌜ r ≡ checkCode (parse (now (file .entry))) ⌝ }
+{
+    let mut image = [0u8; IMAGE];
+    let seen = read(file, &mut image);
+    if let Seen::Refused(form) = seen {
+        return form_code(form);
+    }
+    verdict_code(check(&image))
+}
+
+// One event: the code of its answer, and the state after it. Fewer than three bytes are an incomplete event.
+#[no_mangle]
+pub extern "C" fn signalbox_step(
+    file: &[u8],
+    trains: &mut [u8; TRACKS],
+    lies: &mut [u8; TRACKS],
+    holds: &mut [u64; TRACKS],
+    signals: &mut [u8; SIGNALS],
+    event: &[u8],
+) -> u64
+    ensures { λ r. ⌜ (r ≡ stepCode (parse (now (file .entry))) (stateOf (now (trains .entry)) (now (lies .entry)) (now (holds .entry)) (now (signals .entry))) (firstEvent (now (event .entry)))) × (stateOf (now (trains .exit)) (now (lies .exit)) (now (holds .exit)) (now (signals .exit)) ≡ stepState (parse (now (file .entry))) (stateOf (now (trains .entry)) (now (lies .entry)) (now (holds .entry)) (now (signals .entry))) (firstEvent (now (event .entry)))) ⌝ }
+{
+    let mut image = [0u8; IMAGE];
+    let seen = read(file, &mut image);
+    if let Seen::Refused(form) = seen {
+        return form_code(form);
+    }
+    if !well_formed(&image, trains, lies, holds, signals) {
+        return refusal_code(Refusal::IllFormed);
+    }
+    let answer = decide(&image, trains, lies, holds, signals, event_at(event, 0));
+    act(&image, trains, lies, holds, signals, answer);
+    answer_code(answer)
+}
+
+// As many whole events as there are and as there is room for their answers: how many were played, the code of each answer, and the state after
+// them. An unreadable plan or a state that is not well formed plays none and leaves all as it was.
+#[no_mangle]
+pub extern "C" fn signalbox_run(
+    file: &[u8],
+    trains: &mut [u8; TRACKS],
+    lies: &mut [u8; TRACKS],
+    holds: &mut [u64; TRACKS],
+    signals: &mut [u8; SIGNALS],
+    events: &[u8],
+    answers: &mut [u64],
+) -> usize
+    ensures { λ r. ⌜ Ran (parse (now (file .entry))) (stateOf (now (trains .entry)) (now (lies .entry)) (now (holds .entry)) (now (signals .entry))) (now (events .entry)) (now (answers .entry)) r (stateOf (now (trains .exit)) (now (lies .exit)) (now (holds .exit)) (now (signals .exit))) (now (answers .exit)) ⌝ }
+{
+    let mut image = [0u8; IMAGE];
+    let seen = read(file, &mut image);
+    let Seen::Next(_) = seen else {
+        return 0;
+    };
+    if !well_formed(&image, trains, lies, holds, signals) {
+        return 0;
+    }
+    let count = least(events.len() / 3, answers.len());
+    let mut i = 0;
+    while i < count {
+        let answer = decide(
+            &image,
+            trains,
+            lies,
+            holds,
+            signals,
+            event_at(events, 3 * i),
+        );
+        act(&image, trains, lies, holds, signals, answer);
+        answers[i] = answer_code(answer);
+        i += 1;
+    }
+    count
+}
+
+fn least(a: usize, b: usize) -> usize
+    ensures { λ r. ⌜ r ≡ min a b ⌝ }
+{
+    if a < b { a } else { b }
+}
