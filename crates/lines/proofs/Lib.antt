@@ -1,0 +1,5 @@
+pub mod Digits
+pub mod Runs
+pub mod Printed
+pub mod Shown
+pub mod Most

@@ -1,0 +1,25 @@
+-- `line_of_two`: the first word and its number leave room for a line of the second.
+use Rattle.lines.proofs.Runs.{wrote-then, room-after}
+use Prim.Native.Nat.{_+_}
+use lib.ListN.{length}
+use denote.Ref.{now}
+use Rattle.lines.specs.Decimal.{numberMost}
+use borrow.Author.Needs.{needs}
+use Rattle.lines.proofs.text.line_of_two.Statement.{statement}
+use Rattle.lines.proofs.text.line_of_two.Tie as tie
+
+put-number-requires : tie.Need-put-number-requires
+put-number-requires c κs = search needs
+
+line-of-one-requires : tie.Need-line-of-one-requires
+line-of-one-requires c κs = let s = c .before .before .before .before .before .before .before .before in room-after (now (s .args .word)) (s .args .n) (length (now (s .args .second)) + numberMost + 1) (c .before .before .before .put-number .ensures) (s .pre)
+
+same-length : tie.Need-same-length
+same-length c = search needs
+
+returns : tie.Need-returns
+returns c = wrote-then (c .before .before .before .before .before .before .put-number .ensures) (c .before .before .line-of-one .ensures)
+
+pub line-of-two-spec : {M : Type 1} → statement M
+line-of-two-spec =
+    tie.close (tie.spec put-number-requires line-of-one-requires same-length returns)

@@ -1,0 +1,122 @@
+// An answer, a verdict or a form as the line that is printed, written into lent memory.
+use events::Answer;
+use events::Harm;
+use events::Refusal;
+use numbers::form_number;
+use numbers::form_offset;
+use numbers::harm_number;
+use numbers::refusal_number;
+use numbers::rule_number;
+use numbers::rule_row;
+use plan::image::wide;
+use rules::Verdict;
+use scan::Form;
+use text::line_of_one;
+use text::line_of_two;
+use text::put_end;
+use text::put_number;
+use text::put_word;
+ghost use mathlib.Core.Path.{_≡_};
+ghost use Prim.Native.Nat.{_+_, _≤_};
+ghost use lib.ListN.{length};
+ghost use Rattle.events.specs.declared.Answer.the-variants.{Refused, Accident, Moved};
+ghost use Rattle.lines.specs.Lines.{answerLine, verdictLine, formLine, lineMost};
+ghost use Rattle.lines.specs.Written.{Wrote};
+
+pub mod numbers;
+mod text;
+
+// The room that any line needs, as specs/Lines.antt has it: `line_most` ties the two.
+pub const LINE: usize = 77;
+
+pub fn line_most() -> usize
+    ensures { λ r. ⌜ r ≡ lineMost ⌝ }
+{
+    LINE
+}
+
+// A refusal: 13 and 16 name a track, 14 a point, 19 a signal.
+fn refusal_line(refusal: Refusal, out: &mut [u8], at: usize) -> usize
+    requires { ⌜ at + lineMost ≤ length (now out) ⌝ }
+    ensures { λ r. ⌜ Wrote (answerLine (Refused refusal)) (now (out .entry)) at (now (out .exit)) r ⌝ }
+{
+    let number = refusal_number(refusal);
+    match refusal {
+        Refusal::Occupied(track) => line_of_two(b"refused ", number, b" track ", track, out, at),
+        Refusal::Held(point) => line_of_two(b"refused ", number, b" point ", point, out, at),
+        Refusal::HomeOccupied(track) => {
+            line_of_two(b"refused ", number, b" track ", track, out, at)
+        }
+        Refusal::Red(signal) => line_of_two(b"refused ", number, b" signal ", signal, out, at),
+        _ => line_of_one(b"refused ", number, out, at),
+    }
+}
+
+// An accident: 40 and 41 name a track, 42 a point.
+fn harm_line(harm: Harm, out: &mut [u8], at: usize) -> usize
+    requires { ⌜ at + lineMost ≤ length (now out) ⌝ }
+    ensures { λ r. ⌜ Wrote (answerLine (Accident harm)) (now (out .entry)) at (now (out .exit)) r ⌝ }
+{
+    let number = harm_number(harm);
+    match harm {
+        Harm::Collision(track) => line_of_two(b"accident ", number, b" track ", track, out, at),
+        Harm::RunThrough(track) => line_of_two(b"accident ", number, b" track ", track, out, at),
+        Harm::Derailment(point) => line_of_two(b"accident ", number, b" point ", point, out, at),
+    }
+}
+
+fn moved_line(train: u8, from: usize, to: usize, out: &mut [u8], at: usize) -> usize
+    requires { ⌜ at + lineMost ≤ length (now out) ⌝ }
+    ensures { λ r. ⌜ Wrote (answerLine (Moved train from to)) (now (out .entry)) at (now (out .exit)) r ⌝ }
+{
+    let next = put_number(b"moved ", wide(train), out, at);
+    line_of_two(b" from ", from, b" to ", to, out, next)
+}
+
+// An answer's line.
+pub fn answer_line(answer: Answer, out: &mut [u8], at: usize) -> usize
+    requires { ⌜ at + lineMost ≤ length (now out) ⌝ }
+    ensures { λ r. ⌜ Wrote (answerLine answer) (now (out .entry)) at (now (out .exit)) r ⌝ }
+{
+    match answer {
+        Answer::Refused(refusal) => refusal_line(refusal, out, at),
+        Answer::Accident(harm) => harm_line(harm, out, at),
+        Answer::Granted(route) => line_of_one(b"granted ", route, out, at),
+        Answer::Cancelled(route) => line_of_one(b"cancelled ", route, out, at),
+        Answer::Entered { train, track } => {
+            line_of_two(b"entered ", wide(train), b" track ", track, out, at)
+        }
+        Answer::Moved { train, from, to } => moved_line(train, from, to, out, at),
+        Answer::Left { train, from } => {
+            line_of_two(b"left ", wide(train), b" from ", from, out, at)
+        }
+    }
+}
+
+// A verdict's line.
+pub fn verdict_line(verdict: Verdict, out: &mut [u8], at: usize) -> usize
+    requires { ⌜ at + lineMost ≤ length (now out) ⌝ }
+    ensures { λ r. ⌜ Wrote (verdictLine verdict) (now (out .entry)) at (now (out .exit)) r ⌝ }
+{
+    let rule = rule_number(verdict);
+    if rule == 0 {
+        let next = put_word(b"accepted", out, at);
+        return put_end(out, next);
+    }
+    line_of_two(b"rule ", rule, b" row ", rule_row(verdict), out, at)
+}
+
+// A form's line.
+pub fn form_line(form: Form, out: &mut [u8], at: usize) -> usize
+    requires { ⌜ at + lineMost ≤ length (now out) ⌝ }
+    ensures { λ r. ⌜ Wrote (formLine form) (now (out .entry)) at (now (out .exit)) r ⌝ }
+{
+    line_of_two(
+        b"form ",
+        form_number(form),
+        b" at ",
+        form_offset(form),
+        out,
+        at,
+    )
+}
