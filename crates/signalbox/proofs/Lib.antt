@@ -1,2 +1,4 @@
 pub mod Faced
+pub mod Printing
 pub mod Running
+pub mod Same

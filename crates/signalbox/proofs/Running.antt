@@ -54,12 +54,12 @@ whole-at (a ∷ (b ∷ (c ∷ rest))) (suc i) h =
 
 -- One run after another.
 module _ (p : Plan) where
-  reached-append : (σ : State) (a b : List Event) → reached ours p σ (a ++ b) ≡ reached ours p (reached ours p σ a) b
+  pub reached-append : (σ : State) (a b : List Event) → reached ours p σ (a ++ b) ≡ reached ours p (reached ours p σ a) b
   unfolding reached
   reached-append σ [] b = refl
   reached-append σ (e ∷ a) b = reached-append _ a b
 
-  history-append : (σ : State) (a b : List Event) → history ours p σ (a ++ b) ≡ history ours p σ a ++ history ours p (reached ours p σ a) b
+  pub history-append : (σ : State) (a b : List Event) → history ours p σ (a ++ b) ≡ history ours p σ a ++ history ours p (reached ours p σ a) b
   unfolding history reached
   history-append σ [] b = refl
   history-append σ (e ∷ a) b = rw (history-append (after p σ (answer p σ e)) a b)
@@ -69,24 +69,24 @@ module _ (p : Plan) where
   history-length σ [] = refl
   history-length σ (e ∷ events) = ap suc (history-length _ events)
 
-  reached-none : (σ : State) → reached ours p σ [] ≡ σ
+  pub reached-none : (σ : State) → reached ours p σ [] ≡ σ
   unfolding reached
   reached-none σ = refl
 
-  reached-cons : (σ : State) (e : Event) (events : List Event) → reached ours p σ (e ∷ events) ≡ reached ours p (after p σ (answer p σ e)) events
+  pub reached-cons : (σ : State) (e : Event) (events : List Event) → reached ours p σ (e ∷ events) ≡ reached ours p (after p σ (answer p σ e)) events
   unfolding reached
   reached-cons σ e events = refl
 
-  history-none : (σ : State) → history ours p σ [] ≡ []
+  pub history-none : (σ : State) → history ours p σ [] ≡ []
   unfolding history
   history-none σ = refl
 
-  history-cons : (σ : State) (e : Event) (events : List Event) → history ours p σ (e ∷ events) ≡ answer p σ e ∷ history ours p (after p σ (answer p σ e)) events
+  pub history-cons : (σ : State) (e : Event) (events : List Event) → history ours p σ (e ∷ events) ≡ answer p σ e ∷ history ours p (after p σ (answer p σ e)) events
   unfolding history
   history-cons σ e events = refl
 
   -- in a well-formed state the answer is what is decided
-  when-formed : (σ : State) (e : Event) → wellFormed p σ ≡ true → answer p σ e ≡ decided p σ e
+  pub when-formed : (σ : State) (e : Event) → wellFormed p σ ≡ true → answer p σ e ≡ decided p σ e
   unfolding answer
   when-formed σ e f = rw f
 

@@ -1,10 +1,12 @@
 -- What the box does at its public face, for any bytes as a plan, any state and any bytes as events: `step` plays one event, `run` as many whole
 -- ones as there are and as there is room for their answers.
-use Prim.Native.Nat.{ℕ}
+use Prim.Native.Nat.{ℕ, _/_}
 use mathlib.Core.Path.{_≡_}
 use mathlib.Core.Bool.{cond}
 use mathlib.Core.List.{List, [], _∷_, _++_, map}
 use lib.ListN.{length, take, drop}
+use lib.Dec.{ltb}
+use Rattle.laws.specs.Lists.{joined}
 use Rattle.plan.specs.Records.{Plan}
 use Rattle.scan.specs.Reading.{Got, form, got}
 use Rattle.rules.specs.declared.Verdict.the-variants.{Accepted}
@@ -13,9 +15,11 @@ use Rattle.state.specs.declared.State.{State}
 use Rattle.state.specs.State.{fresh, wellFormed}
 use Rattle.events.specs.declared.Event.{Event}
 use Rattle.events.specs.declared.Answer.{Answer}
-use Rattle.events.specs.Events.{eventOf}
+use Rattle.events.specs.Events.{eventOf, eventsOf}
 use Rattle.events.specs.Decide.{answer}
 use Rattle.events.specs.After.{after}
+use Rattle.lines.specs.Lines.{answerLine, verdictLine, formLine, lineMost}
+use Rattle.lines.specs.Written.{Wrote}
 use Rattle.demands.specs.Demands.{history, reached, Safe}
 use Rattle.demands.specs.Ours.{ours}
 use Rattle.signalbox.specs.Codes.{answerCode, formCode}
@@ -69,3 +73,26 @@ pub record Ran (g : Got Plan) (σ : State) (bytes : List ℕ) (answers : List �
   pub state : τ ≡ runState g σ (playable g σ (length answers) bytes)
   pub codes : answers′ ≡ filled (runAnswers g σ (playable g σ (length answers) bytes)) answers
   pub carries : Carries g σ (playable g σ (length answers) bytes) τ
+
+-- Lines. The first line says whether the plan is accepted; then comes a line for each event, an incomplete last one too.
+
+unfoldable pub firstLine : Got Plan → List ℕ
+firstLine (form f) = formLine f
+firstLine (got p at rest) = verdictLine (verdict p)
+
+-- written where there is room for the longest line, and else nothing
+unfoldable pub opening : Got Plan → ℕ → List ℕ
+opening g room = cond (ltb room lineMost) [] (firstLine g)
+
+-- the events that are printed: as many as there is room for, each with the longest line
+unfoldable pub printable : Got Plan → State → ℕ → List ℕ → List Event
+printable (form f) σ room bytes = []
+printable (got p at rest) σ room bytes = cond (wellFormed p σ) (take (room / lineMost) (eventsOf bytes)) []
+
+unfoldable pub linesOf : List Answer → List ℕ
+linesOf answers = joined answerLine answers
+
+-- What printing hands back and leaves: the bytes written, from the start of the lent buffer on, the rest as it was.
+pub record Printed (g : Got Plan) (σ : State) (bytes out : List ℕ) (r : ℕ) (τ : State) (out′ : List ℕ) : Type 0 where
+  pub state : τ ≡ runState g σ (printable g σ (length out) bytes)
+  pub lines : Wrote (linesOf (runAnswers g σ (printable g σ (length out) bytes))) out 0 out′ r

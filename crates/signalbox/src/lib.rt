@@ -11,6 +11,10 @@ use codes::verdict_code;
 use decide::decide;
 use events::Refusal;
 use events::event_at;
+use lines::LINE;
+use lines::answer_line;
+use lines::form_line;
+use lines::verdict_line;
 use plan::limits::IMAGE;
 use plan::limits::SIGNALS;
 use plan::limits::TRACKS;
@@ -22,9 +26,10 @@ ghost use Prim.Native.Nat.{min};
 ghost use lib.ListN.{length};
 ghost use Rattle.scan.specs.Reading.{parse};
 ghost use Rattle.state.specs.State.{stateOf};
-ghost use Rattle.events.specs.Events.{firstEvent};
+ghost use Rattle.events.specs.Events.{eventsOf, firstEvent};
 ghost use Rattle.signalbox.specs.Codes.{checkCode, readCode};
-ghost use Rattle.signalbox.specs.Face.{Ran, stepCode, stepState};
+ghost use Rattle.signalbox.specs.Face.{opening, Printed, Ran, stepCode, stepState};
+ghost use Rattle.lines.specs.Written.{Wrote};
 
 // Whether a file is a plan: 0, or its form's number and offset.
 #[no_mangle]
@@ -115,6 +120,75 @@ pub extern "C" fn signalbox_run(
         i += 1;
     }
     count
+}
+
+// The first line that the program prints: the form, the broken rule or `accepted`. Hands back how many bytes it has, or 0 where there is no room
+// for the longest line.
+#[no_mangle]
+pub extern "C" fn signalbox_open(file: &[u8], out: &mut [u8]) -> usize
+    ensures { λ r. ⌜ Wrote (opening (parse (now (file .entry))) (length (now (out .entry)))) (now (out .entry)) 0 (now (out .exit)) r ⌝ }
+{
+    if out.len() < LINE {
+        return 0;
+    }
+    let mut image = [0u8; IMAGE];
+    let seen = read(file, &mut image);
+    if let Seen::Refused(form) = seen {
+        return form_line(form, out, 0);
+    }
+    verdict_line(check(&image), out, 0)
+}
+
+// The lines of as many events as there are and as there is room for, each with the longest line: how many bytes were written, and the state after
+// the events. One or two bytes left over are an incomplete event.
+#[no_mangle]
+pub extern "C" fn signalbox_print(
+    file: &[u8],
+    trains: &mut [u8; TRACKS],
+    lies: &mut [u8; TRACKS],
+    holds: &mut [u64; TRACKS],
+    signals: &mut [u8; SIGNALS],
+    events: &[u8],
+    out: &mut [u8],
+) -> usize
+    ensures { λ r. ⌜ Printed (parse (now (file .entry))) (stateOf (now (trains .entry)) (now (lies .entry)) (now (holds .entry)) (now (signals .entry))) (now (events .entry)) (now (out .entry)) r (stateOf (now (trains .exit)) (now (lies .exit)) (now (holds .exit)) (now (signals .exit))) (now (out .exit)) ⌝ }
+{
+    let mut image = [0u8; IMAGE];
+    let seen = read(file, &mut image);
+    let Seen::Next(_) = seen else {
+        return 0;
+    };
+    if !well_formed(&image, trains, lies, holds, signals) {
+        return 0;
+    }
+    let count = least(incomplete_too(events), out.len() / LINE);
+    let mut at = 0;
+    let mut i = 0;
+    while i < count {
+        let answer = decide(
+            &image,
+            trains,
+            lies,
+            holds,
+            signals,
+            event_at(events, 3 * i),
+        );
+        act(&image, trains, lies, holds, signals, answer);
+        at = answer_line(answer, out, at);
+        i += 1;
+    }
+    at
+}
+
+// How many events bytes have, an incomplete last one too.
+fn incomplete_too(events: &[u8]) -> usize
+    ensures { λ r. ⌜ r ≡ length (eventsOf (now (events .entry))) ⌝ }
+{
+    let whole = events.len() / 3;
+    if events.len() % 3 == 0 {
+        return whole;
+    }
+    whole + 1
 }
 
 fn least(a: usize, b: usize) -> usize

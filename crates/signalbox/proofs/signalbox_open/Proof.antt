@@ -1,0 +1,56 @@
+-- `signalbox::signalbox_open`: the line of what reading or checking finds.
+use denote.Ref.{now}
+use Rattle.signalbox.proofs.Faced.{unread, was-read}
+use Rattle.signalbox.proofs.Printing.{no-room, opened-form, opened-plan}
+use borrow.Author.Needs.{needs}
+use Rattle.signalbox.proofs.signalbox_open.Statement.{statement}
+use Rattle.signalbox.proofs.signalbox_open.Tie as tie
+
+returns : tie.Need-returns
+returns c = no-room (now (c .before .before .before .args .file)) (now (c .before .before .before .args .out)) (c .if1 .taken)
+
+read-requires : tie.Need-read-requires
+read-requires c κs = search needs
+
+enum-known-seen : tie.Need-enum-known-seen
+enum-known-seen c = search needs
+
+form-line-requires : tie.Need-form-line-requires
+form-line-requires c κs = search needs
+
+same-length : tie.Need-same-length
+same-length c = search needs
+
+returns-2 : tie.Need-returns-2
+returns-2 c = opened-form (now (c .before .before .before .before .before .before .before .before .before .before .before .before .args .file)) (now (c .before .before .before .before .before .before .before .before .before .before .before .before .args .out)) (c .before .before .before .before .before .before .before .before .before .if1 .left) (unread (now (c .before .before .before .before .before .before .before .before .before .before .before .before .args .file)) _ (c .before .before .before .before .before .before .before .read .ensures) (c .before .before .before .before .before .seen .given .1)) (c .before .before .form-line .ensures)
+
+enum-told : tie.Need-enum-told
+enum-told c = search needs
+
+check-requires : tie.Need-check-requires
+check-requires c κs = search needs
+
+verdict-line-requires : tie.Need-verdict-line-requires
+verdict-line-requires c κs = search needs
+
+same-length-2 : tie.Need-same-length-2
+same-length-2 c = search needs
+
+returns-3 : tie.Need-returns-3
+returns-3 c = opened-plan (now (c .before .before .before .before .before .before .before .before .before .before .before .before .before .args .file)) (now (c .before .before .before .before .before .before .before .before .before .before .before .before .before .args .out)) (c .before .before .before .before .before .before .before .before .before .before .if1 .left) (was-read (now (c .before .before .before .before .before .before .before .before .before .before .before .before .before .args .file)) _ (c .before .before .before .before .before .before .before .before .read .ensures) (c .before .before .before .before .before .before .enum-told .given .1)) (c .before .before .before .before .check .ensures) (c .before .before .verdict-line .ensures)
+
+pub signalbox-open-spec : {M : Type 1} → statement M
+signalbox-open-spec =
+    tie.close
+    (tie.spec
+    returns
+    read-requires
+    enum-known-seen
+    form-line-requires
+    same-length
+    returns-2
+    enum-told
+    check-requires
+    verdict-line-requires
+    same-length-2
+    returns-3)
