@@ -1,0 +1,31 @@
+//! Seeded makers of plans, files, event lists and states.
+
+pub mod broken;
+mod broken_routes;
+mod broken_tracks;
+pub mod case;
+mod dress;
+pub mod events;
+pub mod faults;
+pub mod largest;
+mod renumber;
+mod shapes;
+mod sketch;
+pub mod states;
+pub mod wild;
+
+use crate::model::plan::Plan;
+use crate::random::Random;
+
+/// An accepted plan of some shape.
+pub fn accepted(random: &mut Random) -> Plan {
+    match random.below(200) {
+        0 => largest::largest(random),
+        1 => largest::busy(random),
+        _ => {
+            let layout = shapes::layout(random);
+            let plan = dress::dress(random, &layout);
+            renumber::shuffled(random, &plan)
+        }
+    }
+}

@@ -1,0 +1,16 @@
+//! An independent second program for the junction box. The model follows document 01 alone; its
+//! readings of that document are listed in `README.md`, shown at the top of `main.rs`.
+
+pub mod bench;
+pub mod book;
+#[cfg(feature = "boxed")]
+pub mod boxed;
+pub mod compare;
+pub mod document;
+pub mod generate;
+pub mod model;
+pub mod mutants;
+pub mod random;
+pub mod sessions;
+pub mod subject;
+pub mod writing;

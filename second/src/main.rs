@@ -1,0 +1,111 @@
+#![doc = include_str!("../README.md")]
+
+use second::book::MODEL;
+use second::compare::driver::{self, Search};
+use second::subject::Subject;
+use second::{bench, mutants, sessions};
+use std::io::{self, Read, Write};
+use std::path::Path;
+use std::process::ExitCode;
+
+const USAGE: &str = "usage: second [--long] [--seed N] [--trace]  compare the box with the model
+       second --case SEED                  compare one case again
+       second --mutants [--seed N]         catch every mutant
+       second --bench                      print times
+       second sessions DIR                 write the session folders
+       second run                          read plan.bin and events like the program itself";
+
+/// What is held against the model: the box where it is linked.
+#[cfg(feature = "boxed")]
+fn subject() -> &'static dyn Subject {
+    &second::boxed::Boxed
+}
+
+/// Without the box the model itself, which tries the generators and the counts.
+#[cfg(not(feature = "boxed"))]
+fn subject() -> &'static dyn Subject {
+    &MODEL
+}
+
+/// The subject, if it is another one than the model.
+fn other_subject() -> Option<&'static dyn Subject> {
+    cfg!(feature = "boxed").then(subject)
+}
+
+fn main() -> ExitCode {
+    let arguments: Vec<String> = std::env::args().skip(1).collect();
+    let words: Vec<&str> = arguments.iter().map(String::as_str).collect();
+    match carry_out(&words) {
+        Some(true) => ExitCode::SUCCESS,
+        Some(false) => ExitCode::FAILURE,
+        None => {
+            eprintln!("{USAGE}");
+            ExitCode::from(2)
+        }
+    }
+}
+
+/// True if all went well, nothing if the words make no sense.
+fn carry_out(words: &[&str]) -> Option<bool> {
+    match *words {
+        ["--case", seed] => Some(driver::repeat(subject(), seed.parse().ok()?)),
+        ["--mutants", ref options @ ..] => Some(mutants::catch_all(search(options)?.seed)),
+        ["--bench"] => {
+            bench::bench(other_subject());
+            Some(true)
+        }
+        ["sessions", directory] => Some(write_sessions(Path::new(directory))),
+        ["run"] => Some(run().is_ok()),
+        _ => Some(compare(&search(words)?)),
+    }
+}
+
+/// The search that the options ask for.
+fn search(mut options: &[&str]) -> Option<Search> {
+    let mut search = Search::default();
+    loop {
+        options = match *options {
+            [] => return Some(search),
+            ["--long", ref rest @ ..] => {
+                search.extent = driver::LONG;
+                rest
+            }
+            ["--seed", seed, ref rest @ ..] => {
+                search.seed = seed.parse().ok()?;
+                rest
+            }
+            ["--trace", ref rest @ ..] => {
+                search.trace = true;
+                rest
+            }
+            _ => return None,
+        };
+    }
+}
+
+fn compare(search: &Search) -> bool {
+    let good = driver::compare(subject(), search);
+    let words = if good { "good" } else { "NOT good" };
+    println!("seed {}: {words}", search.seed);
+    good
+}
+
+fn write_sessions(directory: &Path) -> bool {
+    match sessions::write_all(directory) {
+        Ok(count) => println!("{count} sessions"),
+        Err(error) => {
+            eprintln!("{}: {error}", directory.display());
+            return false;
+        }
+    }
+    true
+}
+
+/// The program as the document describes it.
+fn run() -> io::Result<()> {
+    // A file that can't be opened counts as empty.
+    let plan = std::fs::read("plan.bin").unwrap_or_default();
+    let mut events = Vec::new();
+    io::stdin().read_to_end(&mut events)?;
+    io::stdout().write_all(&MODEL.run(&plan, &events))
+}

@@ -1,0 +1,144 @@
+//! States taken for well formed that are not, and 10 in the wrong order.
+
+use super::{Slip, Wrong};
+use crate::book::Book;
+use crate::model::answer::{Answer, Refusal};
+use crate::model::plan::Plan;
+use crate::model::state::{Arrays, State};
+use crate::model::step::step;
+
+pub const ALL: &[Slip] = &[
+    ("a train may appear twice", Wrong::Load(train_twice)),
+    (
+        "trains beyond the tracks pass",
+        Wrong::Load(|state, plan, arrays| {
+            patched(state, plan, arrays, |plan, mended| {
+                mended.trains[plan.tracks.len()..].fill(0)
+            })
+        }),
+    ),
+    (
+        "reverse beyond the tracks passes",
+        Wrong::Load(|state, plan, arrays| {
+            patched(state, plan, arrays, |plan, mended| {
+                mended.lies[plan.tracks.len()..].fill(0)
+            })
+        }),
+    ),
+    (
+        "a lie above 1 is reverse",
+        Wrong::Load(|state, plan, arrays| {
+            patched(state, plan, arrays, |_, mended| {
+                mended.lies.iter_mut().for_each(|lie| *lie = (*lie).min(1));
+            })
+        }),
+    ),
+    (
+        "plain tracks may be reverse",
+        Wrong::Load(|state, plan, arrays| patched(state, plan, arrays, straighten)),
+    ),
+    (
+        "plain tracks may be held",
+        Wrong::Load(|state, plan, arrays| patched(state, plan, arrays, let_go)),
+    ),
+    (
+        "holds by unknown routes pass",
+        Wrong::Load(|state, plan, arrays| {
+            patched(state, plan, arrays, |plan, mended| {
+                let known = (1 << plan.routes.len()) - 1;
+                mended.holds.iter_mut().for_each(|routes| *routes &= known);
+            })
+        }),
+    ),
+    (
+        "a green may name a route that starts elsewhere",
+        Wrong::Load(|state, plan, arrays| patched(state, plan, arrays, redden)),
+    ),
+    (
+        "greens beyond the signals pass",
+        Wrong::Load(|state, plan, arrays| {
+            patched(state, plan, arrays, |plan, mended| {
+                mended.signals[plan.homes.len()..].fill(0)
+            })
+        }),
+    ),
+    ("11 before 10", Wrong::StepArrays(eleven_first)),
+    ("10 empties the state", Wrong::StepArrays(ten_empties)),
+];
+
+/// Loads the arrays with what is wrong in them put right.
+fn patched(state: &mut State, plan: &Plan, arrays: &Arrays, mend: fn(&Plan, &mut Arrays)) -> bool {
+    let mut mended = arrays.clone();
+    mend(plan, &mut mended);
+    state.load(plan, &mended)
+}
+
+fn straighten(plan: &Plan, mended: &mut Arrays) {
+    for (lie, track) in mended.lies.iter_mut().zip(&plan.tracks) {
+        if !track.is_point() {
+            *lie = 0;
+        }
+    }
+}
+
+fn let_go(plan: &Plan, mended: &mut Arrays) {
+    for (routes, track) in mended.holds.iter_mut().zip(&plan.tracks) {
+        if !track.is_point() {
+            *routes = 0;
+        }
+    }
+}
+
+fn redden(plan: &Plan, mended: &mut Arrays) {
+    for (signal, green) in mended.signals.iter_mut().enumerate() {
+        let route = usize::from(*green)
+            .checked_sub(1)
+            .and_then(|route| plan.routes.get(route));
+        if route.is_some_and(|route| route.start != signal) {
+            *green = 0;
+        }
+    }
+}
+
+/// Only the first of each train is looked at; the others stay where they are.
+fn train_twice(state: &mut State, plan: &Plan, arrays: &Arrays) -> bool {
+    let mut mended = arrays.clone();
+    for track in 1..64 {
+        if arrays.trains[..track].contains(&arrays.trains[track]) {
+            mended.trains[track] = 0;
+        }
+    }
+    let well_formed = state.load(plan, &mended);
+    for (train, &cell) in state.trains.iter_mut().zip(&arrays.trains) {
+        *train = (cell != 0).then_some(cell);
+    }
+    well_formed
+}
+
+fn eleven_first(
+    book: &Book,
+    plan: &Plan,
+    arrays: &mut Arrays,
+    event: &[u8],
+    spare: &mut State,
+) -> Answer {
+    let bad_event = Answer::Refused(Refusal::BadEvent);
+    if step(plan, &mut State::fresh(plan), event) == bad_event {
+        return bad_event;
+    }
+    book.any_step(plan, arrays, event, spare)
+}
+
+fn ten_empties(
+    book: &Book,
+    plan: &Plan,
+    arrays: &mut Arrays,
+    event: &[u8],
+    spare: &mut State,
+) -> Answer {
+    let answer = book.any_step(plan, arrays, event, spare);
+    if answer == Answer::Refused(Refusal::NotWellFormed) {
+        *arrays = Arrays::fresh();
+    }
+    answer
+}

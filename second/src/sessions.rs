@@ -1,0 +1,117 @@
+//! Session folders: what goes into the program and exactly what must come out.
+
+use crate::document::{self, Session, BENCH_PLAN};
+use crate::generate::largest::largest;
+use crate::random::Random;
+use crate::writing::write;
+use std::fs;
+use std::io;
+use std::path::Path;
+
+/// Every session: those of the document and the odd ends of files and event lists.
+pub fn all() -> Vec<Session> {
+    let mut sessions = document::sessions();
+    sessions.extend(odd_plans());
+    sessions.extend(odd_endings());
+    sessions
+}
+
+/// Plans that are missing or at their largest. The events are an entry with train number 0 and an
+/// incomplete one.
+fn odd_plan(
+    name: &'static str,
+    about: &'static str,
+    plan: Option<Vec<u8>>,
+    expected: &str,
+) -> Session {
+    Session {
+        name,
+        about,
+        plan,
+        events: vec![3, 0, 0, 1],
+        expected: expected.to_string(),
+    }
+}
+
+fn odd_plans() -> Vec<Session> {
+    let largest_plan = write(&largest(&mut Random::new(1)));
+    let mut one_byte_more = largest_plan.clone();
+    one_byte_more.push(0);
+    vec![
+        odd_plan(
+            "no-plan",
+            "There is no plan.bin at all. A file that cannot be opened counts as empty, and \
+             nothing follows the form line.",
+            None,
+            "form 1 at 0\n",
+        ),
+        odd_plan(
+            "empty-plan",
+            "An empty plan.bin. Nothing follows the form line, not even for events.",
+            Some(vec![]),
+            "form 1 at 0\n",
+        ),
+        odd_plan(
+            "plan-of-10852-bytes",
+            "The largest plan there is, with every count at its limit. It is accepted.",
+            Some(largest_plan),
+            "accepted\nrefused 11\nrefused 11\n",
+        ),
+        odd_plan(
+            "plan-of-10853-bytes",
+            "The largest plan with one byte after its end.",
+            Some(one_byte_more),
+            "form 5 at 10852\n",
+        ),
+    ]
+}
+
+fn odd_endings() -> Vec<Session> {
+    let session = |name, about, ending: &[u8], expected: &str| Session {
+        name,
+        about,
+        plan: Some(BENCH_PLAN.to_vec()),
+        events: [&[3, 0, 1, 1, 0, 0], ending].concat(),
+        expected: format!("accepted\nentered 1 track 0\ngranted 0\n{expected}"),
+    };
+    vec![
+        session(
+            "ending-of-no-byte",
+            "The events end where an event ends.",
+            &[],
+            "",
+        ),
+        session(
+            "ending-of-one-byte",
+            "The last event has one byte, and there is nothing it could mean.",
+            &[4],
+            "refused 11\n",
+        ),
+        session(
+            "ending-of-two-bytes",
+            "The last event lacks only its unused byte; with it the train would have moved.",
+            &[4, 1],
+            "refused 11\n",
+        ),
+    ]
+}
+
+/// Writes each session into a folder of its name.
+pub fn write_all(directory: &Path) -> io::Result<usize> {
+    let sessions = all();
+    for session in &sessions {
+        let folder = directory.join(session.name);
+        fs::create_dir_all(&folder)?;
+        let plan = folder.join("plan.bin");
+        match &session.plan {
+            Some(bytes) => fs::write(plan, bytes)?,
+            // An earlier run may have left one where there must be none.
+            None if plan.exists() => fs::remove_file(plan)?,
+            None => {}
+        }
+        fs::write(folder.join("events.bin"), &session.events)?;
+        fs::write(folder.join("expected.txt"), &session.expected)?;
+        fs::write(folder.join("about.txt"), format!("{}\n", session.about))?;
+    }
+    Ok(sessions.len())
+}
