@@ -72,9 +72,9 @@ module _ {n : ℕ} {before between : List ℕ} {at last : ℕ} (fits : n < 2 ^ 6
   wrote-last = rw (decimal-step n fits h) (wrote-then w (wrote-byte (digit (n % 10)) between last last-room))
 
 -- what is left of the memory after a word and a number
-pub room-after : (word : List ℕ) (n most : ℕ) {before between : List ℕ} {at next : ℕ} → Wrote (word ++ decimal n) before at between next
-    → at + (length word + numberMost + most) ≤ length before → next + most ≤ length between
-room-after word n most {before} {between} {at} {next} w room =
+pub room-after : (word : List ℕ) (n most : ℕ) {total : ℕ} {before between : List ℕ} {at next : ℕ} → length word + numberMost + most ≤ total
+    → Wrote (word ++ decimal n) before at between next → at + total ≤ length before → next + most ≤ length between
+room-after word n most {total} {before} {between} {at} {next} h w room =
     let m = decimal-most n in
     let e = length-append word (decimal n) in
     let k = ap length (w .written) ∙ length-sets before at (word ++ decimal n) in

@@ -18,6 +18,7 @@ use Rattle.scan.specs.declared.Form.{Form}
 use Rattle.scan.specs.Reading.{formNumber, formOffset}
 use Rattle.lines.specs.Decimal.{decimal, numberMost}
 
+-- the bytes of a text: each character here is one byte
 unfoldable pub bytesOf : String → List ℕ
 bytesOf empty = []
 bytesOf (c then text) = code c ∷ bytesOf text
@@ -73,12 +74,15 @@ tableNumber (Left train from) = []
 unfoldable pub answerLine : Answer → List ℕ
 answerLine answer = line (answerWords answer) (tableNumber answer ++ answerValues answer)
 
+-- rule 0 is no rule: accepted
 unfoldable pub verdictLine : Verdict → List ℕ
-verdictLine verdict = cond (eqb (ruleNumber verdict) 0) (bytesOf "accepted" ++ end) (line ("rule " ∷ " row " ∷ []) (ruleNumber verdict ∷ ruleRow verdict ∷ []))
+verdictLine verdict =
+    cond (eqb (ruleNumber verdict) 0) (bytesOf "accepted" ++ end)
+    (line ("rule " ∷ " row " ∷ []) (ruleNumber verdict ∷ ruleRow verdict ∷ []))
 
 unfoldable pub formLine : Form → List ℕ
 formLine form = line ("form " ∷ " at " ∷ []) (formNumber form ∷ formOffset form ∷ [])
 
--- the longest line, whatever its values: that of a move
+-- the longest line, whatever its values: `moved `, ` from ` and ` to `, each with a number, and the end
 abbrev pub lineMost : ℕ
 lineMost = 6 + numberMost + (6 + numberMost + (4 + numberMost + 1))

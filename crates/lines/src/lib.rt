@@ -19,14 +19,14 @@ use text::put_word;
 ghost use mathlib.Core.Path.{_≡_};
 ghost use Prim.Native.Nat.{_+_, _≤_};
 ghost use lib.ListN.{length};
-ghost use Rattle.events.specs.declared.Answer.the-variants.{Refused, Accident, Moved};
+ghost use Rattle.events.specs.declared.Answer.the-variants.{Refused, Accident, Entered, Moved, Left};
 ghost use Rattle.lines.specs.Lines.{answerLine, verdictLine, formLine, lineMost};
 ghost use Rattle.lines.specs.Written.{Wrote};
 
 pub mod numbers;
 mod text;
 
-// The room that any line needs, as specs/Lines.antt has it: `line_most` ties the two.
+// The room that any line may need, as specs/Lines.antt has it: `line_most` ties the two.
 pub const LINE: usize = 77;
 
 pub fn line_most() -> usize
@@ -40,15 +40,13 @@ fn refusal_line(refusal: Refusal, out: &mut [u8], at: usize) -> usize
     requires { ⌜ at + lineMost ≤ length (now out) ⌝ }
     ensures { λ r. ⌜ Wrote (answerLine (Refused refusal)) (now (out .entry)) at (now (out .exit)) r ⌝ }
 {
-    let number = refusal_number(refusal);
+    let next = put_number(b"refused ", refusal_number(refusal), out, at);
     match refusal {
-        Refusal::Occupied(track) => line_of_two(b"refused ", number, b" track ", track, out, at),
-        Refusal::Held(point) => line_of_two(b"refused ", number, b" point ", point, out, at),
-        Refusal::HomeOccupied(track) => {
-            line_of_two(b"refused ", number, b" track ", track, out, at)
-        }
-        Refusal::Red(signal) => line_of_two(b"refused ", number, b" signal ", signal, out, at),
-        _ => line_of_one(b"refused ", number, out, at),
+        Refusal::Occupied(track) => line_of_one(b" track ", track, out, next),
+        Refusal::Held(point) => line_of_one(b" point ", point, out, next),
+        Refusal::HomeOccupied(track) => line_of_one(b" track ", track, out, next),
+        Refusal::Red(signal) => line_of_one(b" signal ", signal, out, next),
+        _ => put_end(out, next),
     }
 }
 
@@ -57,12 +55,20 @@ fn harm_line(harm: Harm, out: &mut [u8], at: usize) -> usize
     requires { ⌜ at + lineMost ≤ length (now out) ⌝ }
     ensures { λ r. ⌜ Wrote (answerLine (Accident harm)) (now (out .entry)) at (now (out .exit)) r ⌝ }
 {
-    let number = harm_number(harm);
+    let next = put_number(b"accident ", harm_number(harm), out, at);
     match harm {
-        Harm::Collision(track) => line_of_two(b"accident ", number, b" track ", track, out, at),
-        Harm::RunThrough(track) => line_of_two(b"accident ", number, b" track ", track, out, at),
-        Harm::Derailment(point) => line_of_two(b"accident ", number, b" point ", point, out, at),
+        Harm::Collision(track) => line_of_one(b" track ", track, out, next),
+        Harm::RunThrough(track) => line_of_one(b" track ", track, out, next),
+        Harm::Derailment(point) => line_of_one(b" point ", point, out, next),
     }
+}
+
+// A train's comings and goings.
+fn entered_line(train: u8, track: usize, out: &mut [u8], at: usize) -> usize
+    requires { ⌜ at + lineMost ≤ length (now out) ⌝ }
+    ensures { λ r. ⌜ Wrote (answerLine (Entered train track)) (now (out .entry)) at (now (out .exit)) r ⌝ }
+{
+    line_of_two(b"entered ", wide(train), b" track ", track, out, at)
 }
 
 fn moved_line(train: u8, from: usize, to: usize, out: &mut [u8], at: usize) -> usize
@@ -71,6 +77,13 @@ fn moved_line(train: u8, from: usize, to: usize, out: &mut [u8], at: usize) -> u
 {
     let next = put_number(b"moved ", wide(train), out, at);
     line_of_two(b" from ", from, b" to ", to, out, next)
+}
+
+fn left_line(train: u8, from: usize, out: &mut [u8], at: usize) -> usize
+    requires { ⌜ at + lineMost ≤ length (now out) ⌝ }
+    ensures { λ r. ⌜ Wrote (answerLine (Left train from)) (now (out .entry)) at (now (out .exit)) r ⌝ }
+{
+    line_of_two(b"left ", wide(train), b" from ", from, out, at)
 }
 
 // An answer's line.
@@ -83,13 +96,9 @@ pub fn answer_line(answer: Answer, out: &mut [u8], at: usize) -> usize
         Answer::Accident(harm) => harm_line(harm, out, at),
         Answer::Granted(route) => line_of_one(b"granted ", route, out, at),
         Answer::Cancelled(route) => line_of_one(b"cancelled ", route, out, at),
-        Answer::Entered { train, track } => {
-            line_of_two(b"entered ", wide(train), b" track ", track, out, at)
-        }
+        Answer::Entered { train, track } => entered_line(train, track, out, at),
         Answer::Moved { train, from, to } => moved_line(train, from, to, out, at),
-        Answer::Left { train, from } => {
-            line_of_two(b"left ", wide(train), b" from ", from, out, at)
-        }
+        Answer::Left { train, from } => left_line(train, from, out, at),
     }
 }
 

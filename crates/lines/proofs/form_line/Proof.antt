@@ -1,7 +1,7 @@
 -- `form_line`: the form's number and offset, each after its word.
 use Rattle.lines.specs.Lines.{bytesOf, line, formLine}
 use mathlib.Core.Path.{refl}
-use borrow.Author.Needs.{needs}
+use native.Mathlib.Omega.{arith}
 use Rattle.lines.proofs.form_line.Statement.{statement}
 use Rattle.lines.proofs.form_line.Tie as tie
 
@@ -18,10 +18,10 @@ form-offset-requires : tie.Need-form-offset-requires
 form-offset-requires c κs = tt
 
 line-of-two-requires : tie.Need-line-of-two-requires
-line-of-two-requires c κs = search needs
+line-of-two-requires c κs = omega arith
 
 same-length : tie.Need-same-length
-same-length c = search needs
+same-length c = c .before .before .line-of-two .kept .1 .1 .1 .1 .0
 
 returns : tie.Need-returns
 unfolding formLine line bytesOf

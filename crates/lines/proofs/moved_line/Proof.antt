@@ -5,6 +5,7 @@ use Rattle.lines.proofs.Runs.{wrote-then, room-after}
 use Prim.Native.Nat.{_+_}
 use Rattle.lines.specs.Decimal.{numberMost}
 use mathlib.Core.Path.{refl}
+use lib.Dec.{lit≤}
 use borrow.Author.Needs.{needs}
 use Rattle.lines.proofs.moved_line.Statement.{statement}
 use Rattle.lines.proofs.moved_line.Tie as tie
@@ -27,7 +28,7 @@ slice-aggregate-line-of-two-2 c = refl
 line-of-two-requires : tie.Need-line-of-two-requires
 unfolding bytesOf
 line-of-two-requires c κs =
-    room-after (bytesOf "moved ") (c .before .before .before .before .before .before .before .wide .result) (6 + numberMost + (4 + numberMost + 1)) (c .before .before .before .before .before .put-number .ensures) (c .before .before .before .before .before .before .before .before .before .before .pre)
+    room-after (bytesOf "moved ") (c .before .before .before .before .before .before .before .wide .result) (6 + numberMost + (4 + numberMost + 1)) (lit≤ tt) (c .before .before .before .before .before .put-number .ensures) (c .before .before .before .before .before .before .before .before .before .before .pre)
 
 same-length : tie.Need-same-length
 same-length c = search needs

@@ -1,6 +1,5 @@
 -- `harm_number`: each case has its number.
 use Rattle.events.specs.Answers.{harmNumber}
-use borrow.Author.Needs.{needs}
 use Rattle.lines.proofs.numbers.harm_number.Statement.{statement}
 use Rattle.lines.proofs.numbers.harm_number.Tie as tie
 

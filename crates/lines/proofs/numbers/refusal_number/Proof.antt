@@ -1,6 +1,5 @@
 -- `refusal_number`: each case has its number.
 use Rattle.events.specs.Answers.{refusalNumber}
-use borrow.Author.Needs.{needs}
 use Rattle.lines.proofs.numbers.refusal_number.Statement.{statement}
 use Rattle.lines.proofs.numbers.refusal_number.Tie as tie
 

@@ -1,6 +1,5 @@
 -- `rule_number`: each case has its number.
 use Rattle.rules.specs.Rules.{ruleNumber}
-use borrow.Author.Needs.{needs}
 use Rattle.lines.proofs.numbers.rule_number.Statement.{statement}
 use Rattle.lines.proofs.numbers.rule_number.Tie as tie
 

@@ -1,6 +1,5 @@
 -- `rule_row`: each case has its row.
 use Rattle.rules.specs.Rules.{ruleRow}
-use borrow.Author.Needs.{needs}
 use Rattle.lines.proofs.numbers.rule_row.Statement.{statement}
 use Rattle.lines.proofs.numbers.rule_row.Tie as tie
 

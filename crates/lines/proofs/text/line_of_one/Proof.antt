@@ -2,6 +2,7 @@
 use Rattle.lines.proofs.Runs.{wrote-then, room-after}
 use native.Mathlib.Omega.{arith}
 use denote.Ref.{now}
+use native.Mathlib.Nat.{le-refl}
 use borrow.Author.Needs.{needs}
 use Rattle.lines.proofs.text.line_of_one.Statement.{statement}
 use Rattle.lines.proofs.text.line_of_one.Tie as tie
@@ -10,7 +11,7 @@ put-number-requires : tie.Need-put-number-requires
 put-number-requires c κs = search needs
 
 put-end-requires : tie.Need-put-end-requires
-put-end-requires c κs = let s = c .before .before .before .before .before .before .before in let h = room-after (now (s .args .word)) (s .args .n) 1 (c .before .before .before .put-number .ensures) (s .pre) in omega arith
+put-end-requires c κs = let s = c .before .before .before .before .before .before .before in let h = room-after (now (s .args .word)) (s .args .n) 1 (le-refl _) (c .before .before .before .put-number .ensures) (s .pre) in omega arith
 
 same-length : tie.Need-same-length
 same-length c = search needs

@@ -4,6 +4,7 @@ use Prim.Native.Nat.{_+_}
 use lib.ListN.{length}
 use denote.Ref.{now}
 use Rattle.lines.specs.Decimal.{numberMost}
+use native.Mathlib.Nat.{le-refl}
 use borrow.Author.Needs.{needs}
 use Rattle.lines.proofs.text.line_of_two.Statement.{statement}
 use Rattle.lines.proofs.text.line_of_two.Tie as tie
@@ -12,7 +13,7 @@ put-number-requires : tie.Need-put-number-requires
 put-number-requires c κs = search needs
 
 line-of-one-requires : tie.Need-line-of-one-requires
-line-of-one-requires c κs = let s = c .before .before .before .before .before .before .before .before in room-after (now (s .args .word)) (s .args .n) (length (now (s .args .second)) + numberMost + 1) (c .before .before .before .put-number .ensures) (s .pre)
+line-of-one-requires c κs = let s = c .before .before .before .before .before .before .before .before in room-after (now (s .args .word)) (s .args .n) (length (now (s .args .second)) + numberMost + 1) (le-refl _) (c .before .before .before .put-number .ensures) (s .pre)
 
 same-length : tie.Need-same-length
 same-length c = search needs
