@@ -163,7 +163,7 @@ fn byte(code: u64, at: u32) -> u8 {
 
 fn form(code: u64) -> Option<Form> {
     let number = byte(code, 0);
-    (1..=5).contains(&number).then(|| Form {
+    (1..=5).contains(&number).then_some(Form {
         number,
         offset: (code >> 8) as usize,
     })

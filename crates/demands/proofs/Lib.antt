@@ -15,3 +15,4 @@ pub mod Verdicts
 pub mod Small
 pub mod Impostors
 pub mod Ours
+pub mod Table

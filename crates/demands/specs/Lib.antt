@@ -1,3 +1,4 @@
 pub mod Demands
 pub mod Impostors
 pub mod Ours
+pub mod Table

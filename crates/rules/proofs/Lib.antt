@@ -1,5 +1,4 @@
 pub mod Meaning
 pub mod Notions
 pub mod Own
-pub mod Slips
 pub mod Verdicts

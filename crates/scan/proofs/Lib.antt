@@ -2,6 +2,6 @@ pub mod Lists
 pub mod Meaning
 pub mod Scanned
 pub mod Sections
-pub mod Slips
+pub mod Bench
 pub mod Sound
 pub mod Whole

@@ -33,9 +33,9 @@ use Rattle.lines.proofs.Runs.{wrote-then}
 use Rattle.lines.proofs.Most.{answer-most}
 use Rattle.demands.specs.Demands.{history, reached}
 use Rattle.demands.specs.Ours.{ours}
-use Rattle.signalbox.specs.Face.{firstLine, opening, printable, runState, runAnswers, linesOf, Printed}
+use Rattle.signalbox.specs.Face.{firstLine, opening, printable, runState, runAnswers, linesOf, Printed, Carries}
 use Rattle.signalbox.proofs.Faced.{Read}
-use Rattle.signalbox.proofs.Running.{reached-append, history-append, reached-none, reached-cons, history-none, history-cons, when-formed}
+use Rattle.signalbox.proofs.Running.{reached-append, history-append, reached-none, reached-cons, history-none, history-cons, when-formed, carried}
 
 -- Events of any bytes, and the event at a place.
 
@@ -148,23 +148,23 @@ no-lines out = record { written = refl; ends = refl; within = omega arith }
 
 module _ (file bytes out₀ : List ℕ) (σ₀ : State) where
   pub printed-unread : {f : Form} → parse file ≡ form f → Printed (parse file) σ₀ bytes out₀ 0 σ₀ out₀
-  unfolding printable runState runAnswers linesOf joined
-  printed-unread e = rw e (record { state = refl; lines = no-lines out₀ })
+  unfolding printable runState runAnswers linesOf joined Carries
+  printed-unread e = rw e (record { state = refl; lines = no-lines out₀; carries = tt })
 
   module _ {image : List ℕ} (w : Read file image) where
     pub printed-ill : wellFormed (planOf image) σ₀ ≡ false → Printed (parse file) σ₀ bytes out₀ 0 σ₀ out₀
     unfolding printable runState runAnswers linesOf joined
     printed-ill f =
         let n : wellFormed (w .plan) σ₀ ≡ false = rw (w .shows) at f in
-        rw (w .parses) (record { state = rw n (sym (reached-none (w .plan) σ₀)); lines = rw (n, history-none (w .plan) σ₀) (no-lines out₀) })
+        rw (w .parses) (record { state = rw n (sym (reached-none (w .plan) σ₀)); lines = rw (n, history-none (w .plan) σ₀) (no-lines out₀); carries = rw n (carried (w .plan) _ _ (w .readable) σ₀ σ₀ [] (sym (reached-none (w .plan) σ₀))) })
 
     pub printed-all : {count n i : ℕ} {σ : State} {out : List ℕ} {at : ℕ} → n ≡ length (eventsOf bytes) → count ≡ min n (length out₀ / lineMost) → wellFormed (planOf image) σ₀ ≡ true
         → Lining (planOf image) bytes out₀ σ₀ count i σ out at → count ≤ i → Printed (parse file) σ₀ bytes out₀ at σ out
     unfolding printable runState runAnswers
-    printed-all m k f l h =
+    printed-all {σ = σ} m k f l h =
         let y : wellFormed (w .plan) σ₀ ≡ true = rw (w .shows) at f in
         let d = rw (w .shows) at (lining-end (planOf image) bytes out₀ σ₀ m k l h) in
-        rw (w .parses) (record { state = rw y (d .0); lines = rw y (d .1) })
+        rw (w .parses) (record { state = rw y (d .0); lines = rw y (d .1); carries = rw y (carried (w .plan) _ _ (w .readable) σ₀ σ _ (d .0)) })
 
 -- The first line.
 

@@ -172,7 +172,7 @@ module _ (p : Plan) (bytes answers₀ : List ℕ) (σ₀ : State) {count : ℕ} 
 
 -- What a run hands back and leaves, in its three ways out.
 
-carried : (p : Plan) (at : ℕ) (rest : List ℕ) → Readable p → (σ τ : State) (events : List Event) → τ ≡ reached ours p σ events → Carries (got p at rest) σ events τ
+pub carried : (p : Plan) (at : ℕ) (rest : List ℕ) → Readable p → (σ τ : State) (events : List Event) → τ ≡ reached ours p σ events → Carries (got p at rest) σ events τ
 unfolding Carries
 carried p at rest R σ τ events z v before e =
     let d : reached ours p fresh (before ++ events) ≡ τ = reached-append p fresh before events ∙ rw e (sym z) in

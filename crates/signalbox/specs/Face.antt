@@ -96,3 +96,4 @@ linesOf answers = joined answerLine answers
 pub record Printed (g : Got Plan) (σ : State) (bytes out : List ℕ) (r : ℕ) (τ : State) (out′ : List ℕ) : Type 0 where
   pub state : τ ≡ runState g σ (printable g σ (length out) bytes)
   pub lines : Wrote (linesOf (runAnswers g σ (printable g σ (length out) bytes))) out 0 out′ r
+  pub carries : Carries g σ (printable g σ (length out) bytes) τ

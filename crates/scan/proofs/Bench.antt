@@ -1,11 +1,10 @@
--- The bench plan and the starred form slips of document 01, computed from the definitions in one claim: each file, and what reading gives.
+-- The bench plan reads as the plan that one would write by hand, and so do plans whose lists are empty. The slips stand in the one table of
+-- crates/demands.
 use mathlib.Core.Path.{_≡_, refl}
 use Prim.Native.Nat.{ℕ}
 use mathlib.Core.List.{List, [], _∷_, _++_, map}
-use lib.ListN.{length, take, set}
 use Rattle.plan.specs.Records.{plain, trailing, exit, Plan, isPoint, uses, limitOf}
-use Rattle.scan.specs.declared.Form.the-variants.{EndsEarly, BadCount, BadNumber, NotRising, LeftOver}
-use Rattle.scan.specs.Reading.{Got, form, got, andThen, done, number, count, many, counted, pathList, risingList, pointList, track, trackSection, signalSection, release, releaseList, route, routeSection, entry, entrySection, sections, parse}
+use Rattle.scan.specs.Reading.{Got, got, andThen, done, number, count, many, counted, pathList, risingList, pointList, track, trackSection, signalSection, release, releaseList, route, routeSection, entry, entrySection, sections, parse}
 
 -- byte by byte
 bench : List ℕ
@@ -52,17 +51,10 @@ barePlan = record {
 table : List Row
 table =
     row bench (got benchPlan 54 [])
-    ∷ row [] (form (EndsEarly 0))
-    ∷ row (0 ∷ []) (form (BadCount 0))
-    ∷ row (take 53 bench) (form (EndsEarly 53))
-    ∷ row (bench ++ (0 ∷ [])) (form (LeftOver 54))
-    ∷ row (set bench 1 4) (form (BadNumber 1))
-    ∷ row (set bench 29 0) (form (BadNumber 29))
-    ∷ row (set (set bench 26 3) 27 2) (form (NotRising 27))
     ∷ row (1 ∷ 3 ∷ 0 ∷ 0 ∷ 0 ∷ 0 ∷ 0 ∷ 0 ∷ []) (got lonePlan 8 [])
     ∷ row (1 ∷ 0 ∷ 0 ∷ 0 ∷ 0 ∷ 1 ∷ 0 ∷ 1 ∷ 0 ∷ 1 ∷ 0 ∷ 0 ∷ 0 ∷ 0 ∷ 0 ∷ 1 ∷ 0 ∷ 0 ∷ []) (got barePlan 18 [])
     ∷ []
 
-slips : map (λ r. parse (r .file)) table ≡ map (λ r. r .gives) table
+by-hand : map (λ r. parse (r .file)) table ≡ map (λ r. r .gives) table
 unfolding bench benchPlan lonePlan barePlan row table parse sections trackSection signalSection routeSection entrySection track release releaseList route entry pathList risingList pointList counted many number count andThen done isPoint uses limitOf
-slips = refl
+by-hand = refl

@@ -1,0 +1,215 @@
+# What the gate's scripts read: every function of the crates with its clauses and calls, the declarations of a file, and the tables of a document.
+import re
+from pathlib import Path
+
+
+def blanked(text):
+    """The text with comments, strings and characters as spaces, so that every place stays where it was."""
+    literal = r'//[^\n]*|/\*.*?\*/|b?"(?:\\.|[^"\\])*"|b?\'(?:\\[^\n]|[^\\\'\n])\''
+    return re.sub(literal, lambda m: re.sub(r'[^\n]', ' ', m.group()), text, flags=re.S)
+
+
+def closing(text, at):
+    """The place after the bracket that closes the one at a place."""
+    depth = 0
+    for i in range(at, len(text)):
+        depth += (text[i] in '([{') - (text[i] in ')]}')
+        if depth == 0:
+            return i + 1
+    raise ValueError(f'no bracket closes the one at {at}')
+
+
+def words(text):
+    return ' '.join(text.split())
+
+
+def unwrapped(text):
+    """Without a pair of parentheses around the whole."""
+    text = text.strip()
+    while text.startswith('(') and closing(text, 0) == len(text):
+        text = text[1:-1].strip()
+    return text
+
+
+def parts(text, sign):
+    """The text cut at a sign that stands in no bracket."""
+    found, depth, start = [], 0, 0
+    for i, c in enumerate(text):
+        depth += (c in '([{') - (c in ')]}')
+        if c == sign and depth == 0:
+            found.append(text[start:i])
+            start = i + 1
+    return [part.strip() for part in found + [text[start:]]]
+
+
+def short(clause):
+    """A clause as docs/CONTRACTS.md writes it: `x` for lent memory at entry and `x′` at exit, `r` for what is handed back."""
+    clause = words(clause).replace('«', '').replace('»', '')
+    bound = re.fullmatch(r'λ (\w+)\. ⌜ (.*) ⌝', clause)
+    if bound:
+        result, clause = bound.groups()
+        clause = re.sub(rf'\bnow {result}\b', result, clause)
+        if result not in ('_', 'r'):
+            clause = re.sub(rf'(?<![\w.]){result}\b', 'r', clause)
+    else:
+        asked = re.fullmatch(r'⌜ (.*) ⌝', clause)
+        clause = asked.group(1) if asked else clause
+    for place, mark in (('entry', ''), ('exit', '′')):
+        clause = re.sub(rf'\(now \((\w+) \.{place}\)\)|now \((\w+) \.{place}\)', lambda m: (m[1] or m[2]) + mark, clause)
+    return unwrapped(re.sub(r'\(now (\w+)\)|\bnow (\w+)', lambda m: m[1] or m[2], clause))
+
+
+class Function:
+    def __init__(self, path, file, parameters, result, clauses, body):
+        self.path, self.file, self.result, self.body = path, file, result, body
+        self.lent = re.findall(r"(\w+)\s*:\s*&\s*(?:'\w+\s+)?mut\b", parameters)
+        self.requires = ' × '.join(short(text) for kind, text in clauses if kind == 'requires')
+        self.ensures = ' × '.join(short(text) for kind, text in clauses if kind == 'ensures')
+        self.calls = set()
+
+    def loose(self):
+        """Why the contract is no equality that fixes what is handed back and all that is lent to be written, or nothing."""
+        if self.body is None:
+            return 'is declared without a body'
+        if not self.ensures:
+            return 'has no ensures'
+        fixed = set()
+        for part in parts(self.ensures, '×'):
+            sides = parts(unwrapped(part), '≡')
+            names = re.findall(r'[^\s()]+', sides[0])
+            if len(sides) != 2 or '→' in part or not all(n in ('r', 'stateOf') or n.endswith('′') for n in names):
+                return 'has a contract that is no equality with a definition of the inputs'
+            if re.search(r'(?<![\w.])r\b|′', sides[1]):
+                return 'has a contract whose right side is not of the inputs alone'
+            fixed.update(names)
+        missing = [x + '′' for x in self.lent if x + '′' not in fixed] + (['r'] if self.result and 'r' not in fixed else [])
+        return f'has a contract that leaves {", ".join(missing)} open' if missing else None
+
+
+def read_file(root, file):
+    """The functions of a source file, with the calls in each as they are written, and the file's `use` names."""
+    text = file.read_text()
+    plain = blanked(text)
+    steps = file.relative_to(root / 'crates').with_suffix('').parts
+    module = [steps[0]] + [s for s in steps[2:] if s not in ('lib', 'main', 'mod')]
+    uses = {}
+    for item in re.findall(r'(?<!ghost )\buse\s+([^;]+);', plain):
+        head, _, group = item.partition('{')
+        for name in (group.rstrip('} \n').split(',') if group else ['']):
+            whole, _, other = (head + name).strip().partition(' as ')
+            whole = [s.strip() for s in whole.split('::') if s.strip()]
+            if whole:
+                uses[other.strip() or whole[-1]] = whole
+    functions, scopes, at = [], [], 0
+    token = re.compile(r'\bfn\s+(\w+)|\b(?:mod|impl)\s+(\w+)[^{;]*\{|[{}]')
+    while True:
+        m = token.search(plain, at)
+        if not m:
+            return functions, uses
+        at = m.end()
+        if m.group() == '}':
+            scopes.pop()
+        elif m[1] is None:
+            scopes.append(m[2])
+        else:
+            path = module + [s for s in scopes if s] + [m[1]]
+            function, at = read_function(plain, text, at, '::'.join(path), file)
+            functions.append(function)
+
+
+def read_function(plain, text, at, path, file):
+    start = plain.index('(', at)
+    at = closing(plain, start)
+    parameters = plain[start + 1:at - 1]
+    # the result's type goes up to the first clause, the body or a semicolon that is in no bracket
+    begin = at
+    while not re.match(r'[{;]|\b(?:requires|ensures)\b', plain[at:]):
+        at = closing(plain, at) if plain[at] in '([' else at + 1
+    result = plain[begin:at].partition('->')[2].strip() not in ('', '()')
+    clauses = []
+    while True:
+        m = re.compile(r'\s*(requires|ensures)\b[^{;]*(?=\{)').match(plain, at)
+        if not m:
+            break
+        end = closing(plain, m.end())
+        clauses.append((m[1], text[m.end() + 1:end - 1]))
+        at = end
+    m = re.compile(r'\s*([{;])').match(plain, at)
+    if not m:
+        raise ValueError(f'{file}: what follows the clauses of {path} is not read')
+    end = closing(plain, m.start(1)) if m[1] == '{' else m.end()
+    body = plain[m.start(1):end] if m[1] == '{' else None
+    return Function(path, file, parameters, result, clauses, body), end
+
+
+def functions_of(root):
+    """All functions under crates/*/src by their path, each with the functions that it calls."""
+    root = Path(root)
+    found, files = {}, []
+    for file in sorted(root.glob('crates/*/src/**/*.rt')):
+        functions, uses = read_file(root, file)
+        files.append((functions, uses))
+        for f in functions:
+            if f.path in found:
+                raise ValueError(f'{f.path} stands twice')
+            found[f.path] = f
+    for functions, uses in files:
+        for f in functions:
+            f.calls = {path for call in calls_in(f.body or '') for path in named(call, f.path.split('::'), uses, found)}
+    return found
+
+
+def calls_in(body):
+    return [(m[1], (m[2] + m[3]).split('::')) for m in re.finditer(r'(\.\s*)?((?:\w+\s*::\s*)*)(\w+)\s*\(', body)]
+
+
+def named(call, path, uses, found):
+    """The functions that a call may mean: a method by its name, else what the path says from where it stands."""
+    dot, steps = call
+    steps = [s.strip() for s in steps]
+    if dot:
+        return [p for p in found if re.search(rf'::[A-Z]\w*::{steps[-1]}$', p)]
+    places = [[path[0]] + steps[1:]] if steps[0] == 'crate' else [path[:i] + steps for i in range(len(path) - 1, 0, -1)] + [steps]
+    if steps[0] in uses:
+        whole = uses[steps[0]] + steps[1:]
+        places = [[path[0]] + whole[1:]] if whole[0] == 'crate' else [path[:i] + whole for i in range(len(path) - 1, 0, -1)] + [whole]
+    for place in places:
+        if '::'.join(place) in found:
+            return ['::'.join(place)]
+    return []
+
+
+def declares(text, name):
+    """Whether the text of definitions declares the name, or the field or case after a dot in the block of the name before it."""
+    whole, _, inner = name.partition('.')
+    lead = r'(?:(?:abbrev|unfoldable|pub)\s+)*'
+    lines = text.split('\n')
+    for i, line in enumerate(lines):
+        if not re.match(rf'\s*{lead}(?:(?:record|data)\s+{re.escape(whole)}[\s:]|{re.escape(whole)}(?:\s+\{{[^}}]*\}})*\s*:(?:\s|$))', line):
+            continue
+        if not inner:
+            return True
+        indent = len(line) - len(line.lstrip())
+        for deeper in lines[i + 1:]:
+            if deeper.strip() and len(deeper) - len(deeper.lstrip()) <= indent:
+                break
+            if re.match(rf'\s*{lead}{re.escape(inner)}\s*:(?:\s|$)', deeper):
+                return True
+    return False
+
+
+def rows(text):
+    """The rows of the tables of a document, each as its cells, without the tables' heads."""
+    found, table = [], False
+    for line in text.split('\n'):
+        if not line.startswith('|'):
+            table = False
+        elif re.fullmatch(r'[|\s:-]+', line):
+            table = True
+        elif table:
+            found.append([c.strip().replace('\\|', '|') for c in re.split(r'(?<!\\)\|', line)[1:-1]])
+    return found
+
+
+def spans(cell):
+    return re.findall(r'`([^`]+)`', cell)
