@@ -1,4 +1,4 @@
--- Searches: the lowest number below n that passes, the first of a list that passes, and chains of tests of which the first that applies answers.
+-- Searches: the lowest number below n that passes, and chains of tests of which the first that applies answers.
 use mathlib.Core.Path.{_≡_, refl, sym, ap, _∙_}
 use mathlib.Core.Bool.{Bool, true, false, cond, _&&_}
 use mathlib.Core.Logic.{_⊎_, inl, inr}
@@ -7,11 +7,9 @@ use Prim.Native.Nat.{ℕ, zero, suc, _+_, _-_, _<_, _≤_}
 use native.Mathlib.Omega.{arith}
 use native.Mathlib.Nat.{not-suc-le-zero}
 use native.Mathlib.Numerals.{add-one}
-use lib.ListN.{length, getD, drop}
 use Rattle.laws.specs.declared.Found.{Found}
 use Rattle.laws.specs.declared.Found.the-variants.{At, Nothing}
 use Rattle.laws.specs.Tests.{Is, split, never, clash, same?, below?, and-l, and-r, and-i}
-use Rattle.laws.specs.Lists.{has, walk-step, walk-end}
 
 -- every number below n passes
 unfoldable pub allBelow : ℕ → (ℕ → Bool) → Bool
@@ -121,24 +119,6 @@ module _ (n : ℕ) (f : ℕ → Bool) where
     | inl w ↦ clash (w .2 .passes) (h (w .0) (w .2 .below))
     | inr w ↦ w .0
   ]
-
--- the first of a list that passes
-unfoldable pub first : (ℕ → Bool) → List ℕ → Found
-first f [] = Nothing
-first f (x ∷ l) = cond (f x) (At x) (first f l)
-
-module _ (l : List ℕ) (i : ℕ) (f : ℕ → Bool) where
-  pub first-hit : (u : ℕ) → i < length l → u ≡ getD l i 0 → f u ≡ true → first f (drop i l) ≡ At u
-  unfolding first
-  first-hit u h e t = walk-step l i (first f) h ∙ rw (← e, t)
-
-  pub first-miss : (u : ℕ) → i < length l → u ≡ getD l i 0 → f u ≡ false → first f (drop i l) ≡ first f (drop (i + 1) l)
-  unfolding first
-  first-miss u h e t = walk-step l i (first f) h ∙ rw (← e, t)
-
-  pub first-end : length l ≤ i → first f (drop i l) ≡ Nothing
-  unfolding first
-  first-end h = walk-end l i (first f) h
 
 -- A test of a chain: the answer for what it finds, or else the rest of the chain.
 unfoldable pub unless {ℓ} : {A : Type ℓ} → Found → (ℕ → A) → A → A

@@ -45,10 +45,6 @@ pub or-e : (a b : Bool) → Is (a || b) → Is a ⊎ Is b
 or-e true b e = inl refl
 or-e false b e = inr e
 
-pub or-f : (a b : Bool) → (a || b) ≡ false → (a ≡ false) × (b ≡ false)
-or-f true b e = clash {b = true} refl e
-or-f false b e = (refl, e)
-
 pub or-l : (a b : Bool) → Is a → Is (a || b)
 or-l a b e = rw e
 

@@ -191,10 +191,6 @@ module _ (tracks : List Track) (few : length tracks ≤ mostTracks) where
   unfolding tracksIn
   tracks-shown after = things-shown _ tracksAt mostTracks [] refl trackIn trackSize trackFile tracks after refl (all-every track-shows tracks) few
 
-  pub track-count-shown : (after : List ℕ) → countIn (trackSlot tracks ++ after) tracksAt mostTracks ≡ length tracks
-  unfolding countedImage
-  track-count-shown after = count-shown _ tracksAt mostTracks [] refl (length tracks) _ refl few
-
   module _ (signals : List ℕ) (few′ : length signals ≤ mostSignals) where
     pub signals-long : length (trackSlot tracks ++ signalSlot signals) ≡ routesAt
     signals-long = rw length-append (omega (arith, tracks-long, length-list mostSignals signals few′))
@@ -202,10 +198,6 @@ module _ (tracks : List Track) (few : length tracks ≤ mostTracks) where
     pub signals-shown : (after : List ℕ) → signalsIn (trackSlot tracks ++ (signalSlot signals ++ after)) ≡ signals
     unfolding signalsIn
     signals-shown after = list-shown _ signalsAt mostSignals (trackSlot tracks) tracks-long signals after refl few′
-
-    pub signal-count-shown : (after : List ℕ) → countIn (trackSlot tracks ++ (signalSlot signals ++ after)) signalsAt mostSignals ≡ length signals
-    unfolding listImage
-    signal-count-shown after = count-shown _ signalsAt mostSignals (trackSlot tracks) tracks-long (length signals) _ refl few′
 
     pub routes-long : (routes : List Route) → length routes ≤ mostRoutes → All RouteFits routes → length (trackSlot tracks ++ signalSlot signals ++ routeSlot routes) ≡ entriesAt
     routes-long routes few″ fit =

@@ -40,9 +40,6 @@ module _ {A : Type 0} (thing : List ℕ → ℕ → A) (size : ℕ) (image : Lis
   unfolding thingsIn
   things-length = length-tab (countIn image at most) (λ i. thing image (at + 1 + size * i))
 
-  pub things-beyond : (i : ℕ) (none : A) → countIn image at most ≤ i → getD (thingsIn thing size image at most) i none ≡ none
-  things-beyond i none h = List·getD-eq-default (thingsIn thing size image at most) none (rw things-length h)
-
   pub things-at : (i : ℕ) (none : A) → i < countIn image at most → getD (thingsIn thing size image at most) i none ≡ thing image (at + 1 + size * i)
   unfolding thingsIn
   things-at i none h = getD-tab (countIn image at most) (λ i. thing image (at + 1 + size * i)) i none h

@@ -21,9 +21,6 @@ use Rattle.rules.specs.Sentences.{Exactly, Plain, Exit, Facing, Trailing
 pub fails : (b : Bool) → (Is b → ⊥) → b ≡ false
 fails b h = elim (split b) [ inl e ↦ absurd (h e) | inr e ↦ e ]
 
-pub refuted : {b : Bool} → b ≡ false → Is b → ⊥
-refuted e t = clash t e
-
 -- not both; not the one, or the other
 module _ (a b : Bool) where
   pub nand-e : Is (not (a && b)) → Is a → b ≡ false

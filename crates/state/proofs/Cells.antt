@@ -28,18 +28,6 @@ module _ (trains : List ℕ) (u train : ℕ) (t : train ≡ getD trains u 0) whe
   unfolding again
   again-later z = rw (← t, ne-eqb train 0 z) (ap (has train) (take-all (length trains - (u + 1)) (drop (u + 1) trains) (rw (length-drop (u + 1) trains) (omega arith))))
 
--- A point is of kind 1 or 2.
-module _ (p : Plan) (u : ℕ) (track : Track) (t : track ≡ trackOf p u) where
-  point-kind : isPoint (p .tracks) u ≡ cond (eqb (track .kind) facing) true (eqb (track .kind) trailing)
-  unfolding isPoint trackOf
-  point-kind = rw t
-
-  pub point-facing : track .kind ≡ facing → isPoint (p .tracks) u ≡ true
-  point-facing e = point-kind ∙ rw (eq-eqb (track .kind) facing e)
-
-  pub point-other : track .kind ≢ facing → isPoint (p .tracks) u ≡ eqb (track .kind) trailing
-  point-other e = point-kind ∙ rw (ne-eqb (track .kind) facing e)
-
 -- A track that is no point is neither reverse nor held.
 module _ (p : Plan) (lies holds : List ℕ) (u : ℕ) where
   pub point-reverse : getD lies u 0 ≢ 0 → pointOr p lies holds u ≡ isPoint (p .tracks) u

@@ -10,7 +10,7 @@ use Rattle.plan.specs.Image.{planOf}
 use Rattle.state.proofs.Cells.{signals-most}
 use Rattle.state.specs.State.{namedAt, greensName}
 use Rattle.state.proofs.Cells.{named-shown}
-use Rattle.state.proofs.Walks.{below-start, below-passes, below-fails, below-end}
+use Rattle.laws.specs.Walks.{below-start, below-passed, below-failed, below-done}
 use borrow.Author.Needs.{needs}
 use Rattle.state.proofs.form.greens_name.Statement.{statement}
 use Rattle.state.proofs.form.greens_name.Tie as tie
@@ -25,7 +25,7 @@ signals-requires : tie.Need-signals-requires Inv-loop μ-loop
 signals-requires c κs = search needs
 
 loop-holds : tie.Need-loop-holds Inv-loop μ-loop
-loop-holds c = (search needs, below-start 0 _)
+loop-holds c = (search needs, below-start _)
 
 element-copy-out-wide : tie.Need-element-copy-out-wide Inv-loop μ-loop
 element-copy-out-wide c = omega (arith, c .before .before .signals .ensures, signals-most (now (c .before .before .before .args .image)))
@@ -38,7 +38,7 @@ green-names-requires c κs = search needs
 
 returns : tie.Need-returns Inv-loop μ-loop
 unfolding greensName
-returns c = sym (below-fails _ _ _ (rw (c .before .before .before .before .before .before .signals .ensures) at (c .before .before .before .before .loop-test .taken)) (named-shown _ _ _ _ (c .before .before .wide .ensures) ∙ sym (c .before .green-names .ensures) ∙ not-t _ (c .if1 .taken)))
+returns c = sym (below-failed _ _ _ (rw (c .before .before .before .before .before .before .signals .ensures) at (c .before .before .before .before .loop-test .taken)) (named-shown _ _ _ _ (c .before .before .wide .ensures) ∙ sym (c .before .green-names .ensures) ∙ not-t _ (c .if1 .taken)))
 
 add-s : tie.Need-add-s Inv-loop μ-loop
 add-s c = search needs
@@ -47,11 +47,11 @@ loop-less : tie.Need-loop-less Inv-loop μ-loop
 loop-less c = search needs
 
 loop-again : tie.Need-loop-again Inv-loop μ-loop
-loop-again c = (search needs, below-passes 0 _ _ (c .before .before .before .before .before .loop .inv .1) (named-shown _ _ _ _ (c .before .before .wide .ensures) ∙ sym (c .before .green-names .ensures) ∙ not-f _ (c .if1 .left)))
+loop-again c = (search needs, below-passed _ _ (c .before .before .before .before .before .loop .inv .1) (named-shown _ _ _ _ (c .before .before .wide .ensures) ∙ sym (c .before .green-names .ensures) ∙ not-f _ (c .if1 .left)))
 
 returns-2 : tie.Need-returns-2 Inv-loop μ-loop
 unfolding greensName
-returns-2 c = sym (below-end _ _ _ (c .before .loop .inv .1) (omega (arith, c .before .before .signals .ensures)))
+returns-2 c = sym (below-done _ _ _ (c .before .loop .inv .1) (omega (arith, c .before .before .signals .ensures)))
 
 pub greens-name-spec : {M : Type 1} → statement M
 greens-name-spec =

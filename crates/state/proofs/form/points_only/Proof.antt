@@ -9,7 +9,7 @@ use Rattle.laws.specs.Search.{allBelow}
 use Rattle.plan.specs.Image.{planOf}
 use Rattle.plan.proofs.View.{tracks-most}
 use Rattle.state.specs.State.{pointOr, pointsOnly}
-use Rattle.state.proofs.Walks.{below-start, below-passes, below-fails, below-end}
+use Rattle.laws.specs.Walks.{below-start, below-passed, below-failed, below-done}
 use borrow.Author.Needs.{needs}
 use Rattle.state.proofs.form.points_only.Statement.{statement}
 use Rattle.state.proofs.form.points_only.Tie as tie
@@ -24,14 +24,14 @@ tracks-requires : tie.Need-tracks-requires Inv-loop μ-loop
 tracks-requires c κs = search needs
 
 loop-holds : tie.Need-loop-holds Inv-loop μ-loop
-loop-holds c = (search needs, below-start 0 _)
+loop-holds c = (search needs, below-start _)
 
 point-or-requires : tie.Need-point-or-requires Inv-loop μ-loop
 point-or-requires c κs = omega (arith, c .before .before .tracks .ensures, tracks-most (now (c .before .before .before .args .image)))
 
 returns : tie.Need-returns Inv-loop μ-loop
 unfolding pointsOnly
-returns c = sym (below-fails _ _ _ (rw (c .before .before .before .before .tracks .ensures) at (c .before .before .loop-test .taken)) (sym (c .before .point-or .ensures) ∙ not-t _ (c .if1 .taken)))
+returns c = sym (below-failed _ _ _ (rw (c .before .before .before .before .tracks .ensures) at (c .before .before .loop-test .taken)) (sym (c .before .point-or .ensures) ∙ not-t _ (c .if1 .taken)))
 
 add-u : tie.Need-add-u Inv-loop μ-loop
 add-u c = search needs
@@ -40,11 +40,11 @@ loop-less : tie.Need-loop-less Inv-loop μ-loop
 loop-less c = search needs
 
 loop-again : tie.Need-loop-again Inv-loop μ-loop
-loop-again c = (search needs, below-passes 0 _ _ (c .before .before .before .loop .inv .1) (sym (c .before .point-or .ensures) ∙ not-f _ (c .if1 .left)))
+loop-again c = (search needs, below-passed _ _ (c .before .before .before .loop .inv .1) (sym (c .before .point-or .ensures) ∙ not-f _ (c .if1 .left)))
 
 returns-2 : tie.Need-returns-2 Inv-loop μ-loop
 unfolding pointsOnly
-returns-2 c = sym (below-end _ _ _ (c .before .loop .inv .1) (omega (arith, c .before .before .tracks .ensures)))
+returns-2 c = sym (below-done _ _ _ (c .before .loop .inv .1) (omega (arith, c .before .before .tracks .ensures)))
 
 pub points-only-spec : {M : Type 1} → statement M
 points-only-spec =

@@ -5,7 +5,7 @@ use lib.ListN.{length, drop}
 use Rattle.laws.specs.Tests.{not-t, not-f}
 use Rattle.laws.specs.Lists.{allOf}
 use Rattle.state.specs.Holds.{within}
-use Rattle.state.proofs.Walks.{each-fails, each-passes, each-end}
+use Rattle.laws.specs.Walks.{all-passed, all-failed, all-done}
 use borrow.Author.Needs.{needs}
 use Rattle.state.proofs.lists.all_within.Statement.{statement}
 use Rattle.state.proofs.lists.all_within.Tie as tie
@@ -29,7 +29,7 @@ within-requires : tie.Need-within-requires Inv-loop μ-loop
 within-requires c κs = search needs
 
 returns : tie.Need-returns Inv-loop μ-loop
-returns c = sym (c .before .before .before .before .loop .inv ∙ each-fails (within _) _ _ (c .before .before .before .loop-test .taken) (sym (c .before .within .ensures) ∙ not-t _ (c .if1 .taken)))
+returns c = sym (c .before .before .before .before .loop .inv ∙ all-failed (within _) _ _ 0 (c .before .before .before .loop-test .taken) (sym (c .before .within .ensures) ∙ not-t _ (c .if1 .taken)))
 
 add-i : tie.Need-add-i Inv-loop μ-loop
 add-i c = search needs
@@ -38,10 +38,10 @@ loop-less : tie.Need-loop-less Inv-loop μ-loop
 loop-less c = search needs
 
 loop-again : tie.Need-loop-again Inv-loop μ-loop
-loop-again c = c .before .before .before .before .loop .inv ∙ each-passes (within _) _ _ (c .before .before .before .loop-test .taken) (sym (c .before .within .ensures) ∙ not-f _ (c .if1 .left))
+loop-again c = c .before .before .before .before .loop .inv ∙ all-passed (within _) _ _ 0 (c .before .before .before .loop-test .taken) (sym (c .before .within .ensures) ∙ not-f _ (c .if1 .left))
 
 returns-2 : tie.Need-returns-2 Inv-loop μ-loop
-returns-2 c = sym (c .before .loop .inv ∙ each-end (within _) _ _ (c .loop-test .left))
+returns-2 c = sym (c .before .loop .inv ∙ all-done (within _) _ _ (c .loop-test .left))
 
 pub all-within-spec : {M : Type 1} → statement M
 all-within-spec =
