@@ -26,7 +26,7 @@ use Rattle.demands.proofs.Invariant.{Invariant}
 use Rattle.demands.proofs.Accidents.{no-accident}
 use Rattle.demands.proofs.Counting.{once-same, once-other}
 use Rattle.demands.proofs.Demand3.{obeys-safe}
-use Rattle.demands.proofs.Verdicts.{judged-once}
+use Rattle.demands.proofs.Verdicts.{judged-once, read-once}
 use Rattle.demands.proofs.Small.{small, bare-reads, sound-reads, small-sound}
 
 -- What a box must answer on the small plan without a clear list.
@@ -165,6 +165,7 @@ impostors = record {
   hushSafe = hush-safe;
   hushFails = hush-fails;
   rowsFail = judged-once;
+  offsetsFail = read-once;
   comingsFail = λ train u box s d. let (n, h, e) = twice box d (Entered train u) s u in let o = once-same u u refl in omega arith;
   goingsFail = λ train u box s d. let (n, h, e) = twice box d (Left train u) s u in let o = once-same u u refl in omega arith;
   movesFail = λ train u v box a s d. let (n, h, e) = twice box d (Moved train u v) s u in let o = once-same u u refl in let z = once-other u v a in omega arith;

@@ -1,16 +1,20 @@
--- A plan has one lowest broken rule, with one lowest row: so a verdict that meets demand 2 can't name another.
+-- A plan has one lowest broken rule, with one lowest row, and a file one first bad byte: so a verdict or a reader that meets demand 2 can't name
+-- another.
 use mathlib.Core.Path.{_≡_, sym, ap, _∙_}
 use mathlib.Core.Logic.{_≢_, _⊎_, inl, inr}
+use mathlib.Core.List.{List}
 use Prim.Native.Nat.{ℕ, _<_}
 use native.Mathlib.Omega.{arith}
 use Rattle.laws.specs.Tests.{below?}
 use Rattle.plan.specs.Records.{Plan}
 use Rattle.plan.specs.File.{Readable}
+use Rattle.scan.specs.declared.Form.{Form}
+use Rattle.scan.specs.Reading.{Got, form, got, formNumber, formOffset}
 use Rattle.rules.specs.declared.Verdict.{Verdict}
 use Rattle.rules.specs.declared.Verdict.the-variants.{Accepted}
 use Rattle.rules.specs.Rules.{ruleNumber, ruleRow}
 use Rattle.rules.specs.Sentences.{Breaks}
-use Rattle.demands.specs.Demands.{Judges}
+use Rattle.demands.specs.Demands.{Reads, Judges}
 
 one-rule : {p : Plan} {k i j m : ℕ} → Breaks p k i → Breaks p j m → k < j → ⊥
 one-rule {k = k} {i = i} a b h = a .fails (b .lower k i h (a .inside))
@@ -36,3 +40,18 @@ judged-once verdict other p reads d n o = differ (broken-once (o .broken p reads
 
     neither : verdict p ≢ Accepted
     neither e = let z = (o .accepted p reads) .1 ((d .accepted p reads) .0 e) ∙ sym e in differ (ap ruleNumber z, ap ruleRow z)
+
+abbrev numberOf : Got Plan → ℕ
+numberOf (form f) = formNumber f
+numberOf (got p at rest) = 0
+
+abbrev offsetOf : Got Plan → ℕ
+offsetOf (form f) = formOffset f
+offsetOf (got p at rest) = 0
+
+pub read-once : (read other : List ℕ → Got Plan) (file : List ℕ) {f g : Form} → Reads read → read file ≡ form f → other file ≡ form g
+    → (formNumber g ≢ formNumber f) ⊎ (formOffset g ≢ formOffset f) → Reads other → ⊥
+read-once read other file {f} {g} d h k n o = elim n [ inl z ↦ z (same numberOf) | inr z ↦ z (same offsetOf) ]
+  where
+    same : (part : Got Plan → ℕ) → part (form g) ≡ part (form f)
+    same part = sym (ap part k) ∙ ap part (o file) ∙ sym (ap part (d file)) ∙ ap part h

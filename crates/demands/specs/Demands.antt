@@ -1,6 +1,7 @@
 -- The demands on a box, as document 01 makes them, stated of any box: what it answers and its next state, for a plan, a state and an event. Each is
 -- followed by the theorem, in proofs/, that speaks of it. The page rests on these definitions, and on nothing else:
 --   plan/specs/Records.antt      Plan; plan/specs/File.antt: Readable, the plans that a file can hold
+--   scan/specs/Reading.antt      parse, what a file holds: a plan, or the form of the first bad byte (scan/proofs/Meaning.antt says what that means)
 --   rules/specs/Sentences.antt   Sound, the twelve plan rules, each as its sentence for every row; Breaks, the lowest broken rule and row; Exactly
 --   rules/specs/Rules.antt       ruleNumber and ruleRow, the document's numbers of a Verdict (rules/src/lib.rt)
 --   state/specs/State.antt       State (state/src/lib.rt) and its views trainAt, HasTrain, Holds; fresh; WellFormed
@@ -17,6 +18,7 @@ use lib.Dec.{eqb}
 use Rattle.laws.specs.Lists.{All}
 use Rattle.plan.specs.Records.{Plan}
 use Rattle.plan.specs.File.{Readable}
+use Rattle.scan.specs.Reading.{Got, parse}
 use Rattle.rules.specs.declared.Verdict.{Verdict}
 use Rattle.rules.specs.declared.Verdict.the-variants.{Accepted}
 use Rattle.rules.specs.Rules.{ruleNumber, ruleRow}
@@ -63,6 +65,10 @@ abbrev pub NoChoice : Type 0
 NoChoice =
     (box other : Box) → Demand2 box → Demand2 other → (p : Plan) → Readable p → (σ : State) (event : Event)
     → (box .answer p σ event ≡ other .answer p σ event) × SameState (box .next p σ event) (other .next p σ event)
+
+-- Demand 2 of reading a file, any bytes whatever: the plan that it holds, or the form number and offset of its first bad byte.
+abbrev pub Reads : (List ℕ → Got Plan) → Type 0
+Reads read = (file : List ℕ) → read file ≡ parse file
 
 -- Demand 2 of the verdict on a plan: accepted exactly when the twelve sentences hold, else the lowest broken rule with its lowest row.
 pub record Judges (verdict : Plan → Verdict) : Type 0 where

@@ -5,6 +5,8 @@ use mathlib.Core.List.{List, [], _∷_}
 use Prim.Native.Nat.{ℕ}
 use Rattle.plan.specs.Records.{Plan}
 use Rattle.plan.specs.File.{Readable}
+use Rattle.scan.specs.declared.Form.{Form}
+use Rattle.scan.specs.Reading.{Got, form, formNumber, formOffset}
 use Rattle.rules.specs.declared.Verdict.{Verdict}
 use Rattle.rules.specs.Rules.{ruleNumber, ruleRow}
 use Rattle.state.specs.declared.State.{State}
@@ -14,7 +16,7 @@ use Rattle.events.specs.declared.Refusal.{Refusal}
 use Rattle.events.specs.declared.Refusal.the-variants.{BadEvent}
 use Rattle.events.specs.declared.Answer.{Answer}
 use Rattle.events.specs.declared.Answer.the-variants.{Refused, Accident, Granted, Cancelled, Entered, Moved, Left}
-use Rattle.demands.specs.Demands.{Box, Demand2, Judges, reached, Demand3}
+use Rattle.demands.specs.Demands.{Box, Demand2, Reads, Judges, reached, Demand3}
 
 -- it refuses everything, whatever the reason
 abbrev pub RefusesAll : Box → Type 0
@@ -57,6 +59,9 @@ pub record Impostors : Type 0 where
   -- an invented rule or row: no other than that of a verdict that meets demand 2
   pub rowsFail : (verdict other : Plan → Verdict) (p : Plan) → Readable p → Judges verdict
       → (ruleNumber (other p) ≢ ruleNumber (verdict p)) ⊎ (ruleRow (other p) ≢ ruleRow (verdict p)) → Judges other → ⊥
+  -- an invented form or offset: no other than that of a reader that meets demand 2
+  pub offsetsFail : (read other : List ℕ → Got Plan) (file : List ℕ) {f g : Form} → Reads read → read file ≡ form f → other file ≡ form g
+      → (formNumber g ≢ formNumber f) ⊎ (formOffset g ≢ formOffset f) → Reads other → ⊥
   -- invented comings and goings, whatever the states
   pub comingsFail : (train u : ℕ) (box : Box) → Stock (Entered train u) box → Demand3 box → ⊥
   pub goingsFail : (train u : ℕ) (box : Box) → Stock (Left train u) box → Demand3 box → ⊥
