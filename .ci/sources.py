@@ -60,8 +60,9 @@ def short(clause):
 
 
 class Function:
-    def __init__(self, path, file, parameters, result, clauses, body):
-        self.path, self.file, self.result, self.body = path, file, result, body
+    def __init__(self, path, file, parameters, result, clauses, body, exported):
+        self.path, self.file, self.result, self.body, self.exported = path, file, result, body, exported
+        self.parameters = [part for part in parts(parameters, ',') if part]
         self.lent = re.findall(r"(\w+)\s*:\s*&\s*(?:'\w+\s+)?mut\b", parameters)
         self.requires = ' × '.join(short(text) for kind, text in clauses if kind == 'requires')
         self.ensures = ' × '.join(short(text) for kind, text in clauses if kind == 'ensures')
@@ -73,11 +74,14 @@ class Function:
             return 'is declared without a body'
         if not self.ensures:
             return 'has no ensures'
+        if re.search(r'\.(?:entry|exit)\b|\bnow\b', self.ensures):
+            return 'has a contract that reads lent memory in a way that is not known here'
         fixed = set()
         for part in parts(self.ensures, '×'):
             sides = parts(unwrapped(part), '≡')
             names = re.findall(r'[^\s()]+', sides[0])
-            if len(sides) != 2 or '→' in part or not all(n in ('r', 'stateOf') or n.endswith('′') for n in names):
+            state = names == ['stateIn', 'cells′', 'holds′']
+            if len(sides) != 2 or re.search('[→⊎∨↔]', part) or not (state or len(names) == 1 and re.fullmatch(r'r|\w+′', names[0])):
                 return 'has a contract that is no equality with a definition of the inputs'
             if re.search(r'(?<![\w.])r\b|′', sides[1]):
                 return 'has a contract whose right side is not of the inputs alone'
@@ -113,11 +117,12 @@ def read_file(root, file):
             scopes.append(m[2])
         else:
             path = module + [s for s in scopes if s] + [m[1]]
-            function, at = read_function(plain, text, at, '::'.join(path), file)
+            exported = bool(re.search(r'\bextern\s+$', plain[:m.start()]))
+            function, at = read_function(plain, text, at, '::'.join(path), file, exported)
             functions.append(function)
 
 
-def read_function(plain, text, at, path, file):
+def read_function(plain, text, at, path, file, exported):
     start = plain.index('(', at)
     at = closing(plain, start)
     parameters = plain[start + 1:at - 1]
@@ -139,7 +144,20 @@ def read_function(plain, text, at, path, file):
         raise ValueError(f'{file}: what follows the clauses of {path} is not read')
     end = closing(plain, m.start(1)) if m[1] == '{' else m.end()
     body = plain[m.start(1):end] if m[1] == '{' else None
-    return Function(path, file, parameters, result, clauses, body), end
+    return Function(path, file, parameters, result, clauses, body, exported), end
+
+
+def unread(text):
+    """What a source file has that these scripts would read past: a raw string, or memory lent to be written behind a name or in a struct."""
+    plain = blanked(text)
+    for what, pattern in (
+        ('a raw string', r'\bb?r#*"'),
+        ('a name for a reference that writes', r'\btype\b[^;]*&[^;]*\bmut\b'),
+        ('a struct that holds a reference that writes', r'\bstruct\b[^;{(]*(?:\{[^}]*|\([^)]*)&\s*(?:\'\w+\s+)?mut\b'),
+        ('a method on a reference', r'\(\s*&\s*(?:\'\w+\s+)?(?:mut\s+)?self\b'),
+    ):
+        if re.search(pattern, text if '"' in pattern else plain):
+            yield what
 
 
 def functions_of(root):

@@ -108,7 +108,7 @@ fn time_steps(subject: &dyn Subject, load: &Load) -> f64 {
     let mut state = Arrays::fresh();
     per_unit(RUN_EVENTS / 10, || {
         for event in events.chunks_exact(3) {
-            black_box(ready.step(&mut state, [event[0], event[1], event[2]]));
+            black_box(ready.step(&mut state, event));
         }
     })
 }

@@ -7,9 +7,12 @@ use crate::model::reading::{self, Fault, Form};
 use crate::model::rules::{self, Broken};
 use crate::model::state::{Arrays, State};
 use crate::model::step;
-use crate::subject::{Prepared, Subject};
+use crate::subject::{Lent, Prepared, Subject, LINE};
 use std::fmt::Display;
 use std::io::Write;
+
+/// A plan as the calls for many events are given it: the form of one that cannot be read.
+pub type Readable<'a> = Result<&'a Plan, Form>;
 
 #[derive(Clone, Copy)]
 pub struct Book {
@@ -20,6 +23,11 @@ pub struct Book {
     pub step: fn(&Plan, &mut State, &[u8]) -> Answer,
     pub step_arrays: fn(&Book, &Plan, &mut Arrays, &[u8], &mut State) -> Answer,
     pub run: fn(&Book, &[u8], &[u8]) -> Vec<u8>,
+    /// Many events at once, for their answers and for their lines.
+    pub run_list: fn(&Book, Readable, &mut Arrays, &[u8], usize) -> Lent<Answer>,
+    pub print_list: fn(&Book, Readable, &mut Arrays, &[u8], usize) -> Lent<u8>,
+    /// The line for the plan.
+    pub open: fn(Verdict, usize) -> Lent<u8>,
 }
 
 /// The document.
@@ -30,6 +38,9 @@ pub const MODEL: Book = Book {
     step: step::step,
     step_arrays: Book::any_step,
     run: Book::whole_run,
+    run_list: Book::any_run,
+    print_list: Book::any_print,
+    open: Book::opening,
 };
 
 impl Book {
@@ -75,6 +86,68 @@ impl Book {
         }
         lines
     }
+
+    /// Plays events one by one from the state that the arrays show, if they show one.
+    pub fn play<'e>(
+        &self,
+        plan: Readable,
+        arrays: &mut Arrays,
+        events: impl Iterator<Item = &'e [u8]>,
+        mut tell: impl FnMut(Answer),
+    ) {
+        let Ok(plan) = plan else { return };
+        let mut state = State::fresh(plan);
+        if !(self.load)(&mut state, plan, arrays) {
+            return;
+        }
+        for event in events {
+            tell((self.step)(plan, &mut state, event));
+        }
+        state.store(arrays);
+    }
+
+    /// A whole event takes one answer.
+    pub fn any_run(
+        &self,
+        plan: Readable,
+        arrays: &mut Arrays,
+        events: &[u8],
+        room: usize,
+    ) -> Lent<Answer> {
+        let mut answers = Lent::untouched(room);
+        let played = events.chunks_exact(3).take(room);
+        self.play(plan, arrays, played, |answer| answers.write(answer));
+        answers
+    }
+
+    /// An event, whole or not, is counted one line.
+    pub fn any_print(
+        &self,
+        plan: Readable,
+        arrays: &mut Arrays,
+        events: &[u8],
+        room: usize,
+    ) -> Lent<u8> {
+        let mut lines = Lent::untouched(room);
+        let played = events.chunks(3).take(room / LINE);
+        self.play(plan, arrays, played, |answer| put_line(&mut lines, answer));
+        lines
+    }
+
+    pub fn opening(verdict: Verdict, room: usize) -> Lent<u8> {
+        let mut line = Lent::untouched(room);
+        if room >= LINE {
+            put_line(&mut line, verdict);
+        }
+        line
+    }
+}
+
+/// A line into lent memory.
+pub fn put_line(lines: &mut Lent<u8>, said: impl Display) {
+    for byte in format!("{said}\n").bytes() {
+        lines.write(byte);
+    }
 }
 
 pub fn print_line(lines: &mut Vec<u8>, said: impl Display) {
@@ -105,6 +178,15 @@ struct OpenBook<'a> {
     plan: Result<(State, Plan), Form>,
 }
 
+impl OpenBook<'_> {
+    fn readable(&self) -> Readable<'_> {
+        self.plan
+            .as_ref()
+            .map(|(_, plan)| plan)
+            .map_err(|form| *form)
+    }
+}
+
 impl Prepared for OpenBook<'_> {
     fn check(&mut self) -> Verdict {
         match &self.plan {
@@ -113,10 +195,22 @@ impl Prepared for OpenBook<'_> {
         }
     }
 
-    fn step(&mut self, state: &mut Arrays, event: [u8; 3]) -> Answer {
+    fn step(&mut self, state: &mut Arrays, event: &[u8]) -> Answer {
         match &mut self.plan {
-            Ok((spare, plan)) => (self.book.step_arrays)(self.book, plan, state, &event, spare),
+            Ok((spare, plan)) => (self.book.step_arrays)(self.book, plan, state, event, spare),
             Err(form) => Answer::Unreadable(*form),
         }
+    }
+
+    fn run(&mut self, state: &mut Arrays, events: &[u8], room: usize) -> Lent<Answer> {
+        (self.book.run_list)(self.book, self.readable(), state, events, room)
+    }
+
+    fn print(&mut self, state: &mut Arrays, events: &[u8], room: usize) -> Lent<u8> {
+        (self.book.print_list)(self.book, self.readable(), state, events, room)
+    }
+
+    fn open(&mut self, room: usize) -> Lent<u8> {
+        (self.book.open)(self.check(), room)
     }
 }

@@ -8,8 +8,19 @@ use crate::model::answer::{Accident, Answer, Refusal, Verdict};
 use crate::model::reading::Form;
 use crate::model::rules::Broken;
 use crate::model::state::Arrays;
-use crate::subject::{Prepared, Subject};
+use crate::subject::{Lent, Prepared, Subject, LINE, PAST};
 
+/// A state as the box is lent it: trains, lies and signals one after the other, and the holds.
+#[repr(C)]
+struct State {
+    cells: [u8; 160],
+    holds: [u64; 64],
+}
+
+const LIES: usize = 64;
+const SIGNALS: usize = 128;
+
+// A slice passes as a pointer and a length, an array as a pointer.
 #[link(name = "signalbox", kind = "static")]
 extern "C" {
     fn signalbox_read(file: *const u8, length: usize) -> u64;
@@ -17,20 +28,16 @@ extern "C" {
     fn signalbox_step(
         file: *const u8,
         length: usize,
-        trains: *mut u8,
-        lies: *mut u8,
-        holds: *mut u64,
-        signals: *mut u8,
+        cells: &mut [u8; 160],
+        holds: &mut [u64; 64],
         event: *const u8,
         event_length: usize,
     ) -> u64;
     fn signalbox_run(
         file: *const u8,
         length: usize,
-        trains: *mut u8,
-        lies: *mut u8,
-        holds: *mut u64,
-        signals: *mut u8,
+        cells: &mut [u8; 160],
+        holds: &mut [u64; 64],
         events: *const u8,
         events_length: usize,
         answers: *mut u64,
@@ -40,10 +47,8 @@ extern "C" {
     fn signalbox_print(
         file: *const u8,
         length: usize,
-        trains: *mut u8,
-        lies: *mut u8,
-        holds: *mut u64,
-        signals: *mut u8,
+        cells: &mut [u8; 160],
+        holds: &mut [u64; 64],
         events: *const u8,
         events_length: usize,
         out: *mut u8,
@@ -51,8 +56,82 @@ extern "C" {
     ) -> usize;
 }
 
-/// The longest line that any values can give.
-const LINE: usize = 77;
+impl State {
+    fn of(arrays: &Arrays) -> Self {
+        let mut cells = [0; 160];
+        cells[..LIES].copy_from_slice(&arrays.trains);
+        cells[LIES..SIGNALS].copy_from_slice(&arrays.lies);
+        cells[SIGNALS..].copy_from_slice(&arrays.signals);
+        State {
+            cells,
+            holds: arrays.holds,
+        }
+    }
+
+    fn give_back(&self, arrays: &mut Arrays) {
+        arrays.trains.copy_from_slice(&self.cells[..LIES]);
+        arrays.lies.copy_from_slice(&self.cells[LIES..SIGNALS]);
+        arrays.signals.copy_from_slice(&self.cells[SIGNALS..]);
+        arrays.holds = self.holds;
+    }
+}
+
+/// A call that plays events from a state; the arrays then hold the state after them.
+fn played<R>(arrays: &mut Arrays, call: impl FnOnce(&mut State) -> R) -> R {
+    let mut state = State::of(arrays);
+    let result = call(&mut state);
+    state.give_back(arrays);
+    result
+}
+
+/// Lends memory of which every cell has a mark that no call has a reason to write.
+fn lend<T: Copy + PartialEq, U>(
+    room: usize,
+    mark: fn(usize) -> T,
+    meaning: fn(T) -> U,
+    call: impl FnOnce(&mut [T]) -> usize,
+) -> Lent<U> {
+    let mut cells: Vec<T> = (0..room + PAST).map(mark).collect();
+    let count = call(&mut cells[..room]);
+    let touched = |(at, &cell): (usize, &T)| (cell != mark(at)).then(|| meaning(cell));
+    Lent {
+        count,
+        cells: cells.iter().enumerate().map(touched).collect(),
+    }
+}
+
+/// No byte of a line is above 127.
+fn byte_mark(at: usize) -> u8 {
+    at as u8 | 128
+}
+
+/// No code has its highest byte.
+fn code_mark(at: usize) -> u64 {
+    !(at as u64)
+}
+
+/// The line for the plan.
+fn open(plan: &[u8], out: &mut [u8]) -> usize {
+    // Safety: both slices are lent for the call alone, with their lengths, and overlap nothing.
+    unsafe { signalbox_open(plan.as_ptr(), plan.len(), out.as_mut_ptr(), out.len()) }
+}
+
+/// The lines of events, in one call.
+fn print(plan: &[u8], arrays: &mut Arrays, events: &[u8], out: &mut [u8]) -> usize {
+    // Safety: the slices are lent for the call alone, with their lengths, and overlap nothing.
+    played(arrays, |state| unsafe {
+        signalbox_print(
+            plan.as_ptr(),
+            plan.len(),
+            &mut state.cells,
+            &mut state.holds,
+            events.as_ptr(),
+            events.len(),
+            out.as_mut_ptr(),
+            out.len(),
+        )
+    })
+}
 
 pub struct Boxed;
 
@@ -68,37 +147,16 @@ impl Subject for Boxed {
 
     fn run(&self, plan: &[u8], events: &[u8]) -> Vec<u8> {
         let mut lines = vec![0; LINE];
-        // Safety: both slices are lent for the call alone, with their lengths.
-        let first =
-            unsafe { signalbox_open(plan.as_ptr(), plan.len(), lines.as_mut_ptr(), lines.len()) };
+        let first = open(plan, &mut lines);
         lines.truncate(first);
         if self.read(plan).is_none() {
-            print(plan, events, &mut lines);
+            let mut out = vec![0; events.len().div_ceil(3) * LINE];
+            let written = print(plan, &mut Arrays::fresh(), events, &mut out);
+            out.truncate(written);
+            lines.append(&mut out);
         }
         lines
     }
-}
-
-/// The lines of all events, in one call.
-fn print(plan: &[u8], events: &[u8], lines: &mut Vec<u8>) {
-    let mut state = Arrays::fresh();
-    let mut out = vec![0; events.len().div_ceil(3) * LINE];
-    // Safety: each array has the length that the box expects, and nothing else refers to it.
-    let written = unsafe {
-        signalbox_print(
-            plan.as_ptr(),
-            plan.len(),
-            state.trains.as_mut_ptr(),
-            state.lies.as_mut_ptr(),
-            state.holds.as_mut_ptr(),
-            state.signals.as_mut_ptr(),
-            events.as_ptr(),
-            events.len(),
-            out.as_mut_ptr(),
-            out.len(),
-        )
-    };
-    lines.extend_from_slice(&out[..written]);
 }
 
 /// A plan as its bytes: the box reads it at each call.
@@ -115,45 +173,53 @@ impl Prepared for Open<'_> {
             None if code == 200 => Verdict::Accepted,
             None => Verdict::Broken(Broken {
                 rule: (byte(code, 0) as usize).wrapping_sub(200),
-                row: byte(code, 1) as usize,
+                row: (code >> 8) as usize,
             }),
         }
     }
 
-    fn step(&mut self, state: &mut Arrays, event: [u8; 3]) -> Answer {
-        // Safety: each array has the length that the box expects, and nothing else refers to it.
-        let code = unsafe {
+    fn step(&mut self, state: &mut Arrays, event: &[u8]) -> Answer {
+        // Safety: the slices are lent for the call alone, with their lengths, and overlap nothing.
+        answer(played(state, |state| unsafe {
             signalbox_step(
                 self.plan.as_ptr(),
                 self.plan.len(),
-                state.trains.as_mut_ptr(),
-                state.lies.as_mut_ptr(),
-                state.holds.as_mut_ptr(),
-                state.signals.as_mut_ptr(),
+                &mut state.cells,
+                &mut state.holds,
                 event.as_ptr(),
                 event.len(),
             )
-        };
-        answer(code)
+        }))
     }
-}
 
-/// Many events from a state: the codes of their answers. The arrays then hold the state after them.
-pub fn run_codes(plan: &[u8], state: &mut Arrays, events: &[u8], answers: &mut [u64]) -> usize {
-    // Safety: each array has the length that the box expects, and nothing else refers to it.
-    unsafe {
-        signalbox_run(
-            plan.as_ptr(),
-            plan.len(),
-            state.trains.as_mut_ptr(),
-            state.lies.as_mut_ptr(),
-            state.holds.as_mut_ptr(),
-            state.signals.as_mut_ptr(),
-            events.as_ptr(),
-            events.len(),
-            answers.as_mut_ptr(),
-            answers.len(),
-        )
+    fn run(&mut self, arrays: &mut Arrays, events: &[u8], room: usize) -> Lent<Answer> {
+        lend(room, code_mark, answer, |answers| {
+            // Safety: the slices are lent for the call alone, with their lengths, and overlap nothing.
+            played(arrays, |state| unsafe {
+                signalbox_run(
+                    self.plan.as_ptr(),
+                    self.plan.len(),
+                    &mut state.cells,
+                    &mut state.holds,
+                    events.as_ptr(),
+                    events.len(),
+                    answers.as_mut_ptr(),
+                    answers.len(),
+                )
+            })
+        })
+    }
+
+    fn print(&mut self, arrays: &mut Arrays, events: &[u8], room: usize) -> Lent<u8> {
+        let same = |byte| byte;
+        lend(room, byte_mark, same, |out| {
+            print(self.plan, arrays, events, out)
+        })
+    }
+
+    fn open(&mut self, room: usize) -> Lent<u8> {
+        let same = |byte| byte;
+        lend(room, byte_mark, same, |out| open(self.plan, out))
     }
 }
 
@@ -169,42 +235,50 @@ fn form(code: u64) -> Option<Form> {
     })
 }
 
-/// A number that the document does not have becomes a form of that number, which no plan has: a mismatch, not a panic.
-pub fn answer(code: u64) -> Answer {
+/// A code that is no answer's becomes a form of its number, which no plan has: a mismatch, not a panic.
+fn answer(code: u64) -> Answer {
     let (train, first) = (byte(code, 1), byte(code, 1) as usize);
     let (second, third) = (byte(code, 2) as usize, byte(code, 3) as usize);
-    match byte(code, 0) {
-        10 => Answer::Refused(Refusal::NotWellFormed),
-        11 => Answer::Refused(Refusal::BadEvent),
-        12 => Answer::Refused(Refusal::SignalNotRed),
-        13 => Answer::Refused(Refusal::TrainInTheWay { track: first }),
-        14 => Answer::Refused(Refusal::PointHeld { point: first }),
-        15 => Answer::Refused(Refusal::SignalNotGreen),
-        16 => Answer::Refused(Refusal::TrainAtHome { track: first }),
-        17 => Answer::Refused(Refusal::AlreadyInPlan),
-        18 => Answer::Refused(Refusal::NotInPlan),
-        19 => Answer::Refused(Refusal::SignalRed { signal: first }),
-        40 => Answer::Accident(Accident::Collision { track: first }),
-        41 => Answer::Accident(Accident::RunThrough { track: first }),
-        42 => Answer::Accident(Accident::Derailment { point: first }),
-        100 => Answer::Granted { route: first },
-        101 => Answer::Cancelled { route: first },
-        102 => Answer::Entered {
-            train,
-            track: second,
-        },
-        103 => Answer::Moved {
-            train,
-            from: second,
-            to: third,
-        },
-        104 => Answer::Left {
-            train,
-            from: second,
-        },
-        number => Answer::Unreadable(Form {
-            number,
-            offset: (code >> 8) as usize,
-        }),
+    let (values, answer) = match byte(code, 0) {
+        10 => (0, Answer::Refused(Refusal::NotWellFormed)),
+        11 => (0, Answer::Refused(Refusal::BadEvent)),
+        12 => (0, Answer::Refused(Refusal::SignalNotRed)),
+        13 => (1, Answer::Refused(Refusal::TrainInTheWay { track: first })),
+        14 => (1, Answer::Refused(Refusal::PointHeld { point: first })),
+        15 => (0, Answer::Refused(Refusal::SignalNotGreen)),
+        16 => (1, Answer::Refused(Refusal::TrainAtHome { track: first })),
+        17 => (0, Answer::Refused(Refusal::AlreadyInPlan)),
+        18 => (0, Answer::Refused(Refusal::NotInPlan)),
+        19 => (1, Answer::Refused(Refusal::SignalRed { signal: first })),
+        40 => (1, Answer::Accident(Accident::Collision { track: first })),
+        41 => (1, Answer::Accident(Accident::RunThrough { track: first })),
+        42 => (1, Answer::Accident(Accident::Derailment { point: first })),
+        100 => (1, Answer::Granted { route: first }),
+        101 => (1, Answer::Cancelled { route: first }),
+        102 => {
+            let track = second;
+            (2, Answer::Entered { train, track })
+        }
+        103 => {
+            let (from, to) = (second, third);
+            (3, Answer::Moved { train, from, to })
+        }
+        104 => {
+            let from = second;
+            (2, Answer::Left { train, from })
+        }
+        _ => return strange(code),
+    };
+    // Nothing stands above the values.
+    match code >> (8 + 8 * values) {
+        0 => answer,
+        _ => strange(code),
     }
+}
+
+fn strange(code: u64) -> Answer {
+    Answer::Unreadable(Form {
+        number: byte(code, 0),
+        offset: (code >> 8) as usize,
+    })
 }

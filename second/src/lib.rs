@@ -11,6 +11,7 @@ pub mod generate;
 pub mod model;
 pub mod mutants;
 pub mod random;
+pub mod rows;
 pub mod sessions;
 pub mod subject;
 pub mod writing;

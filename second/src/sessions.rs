@@ -3,16 +3,18 @@
 use crate::document::{self, Session, BENCH_PLAN};
 use crate::generate::largest::largest;
 use crate::random::Random;
+use crate::rows;
 use crate::writing::write;
 use std::fs;
 use std::io;
 use std::path::Path;
 
-/// Every session: those of the document and the odd ends of files and event lists.
+/// Every session: those of the document, the odd ends of files and event lists, the last rows.
 pub fn all() -> Vec<Session> {
     let mut sessions = document::sessions();
     sessions.extend(odd_plans());
     sessions.extend(odd_endings());
+    sessions.extend(rows::sessions());
     sessions
 }
 

@@ -6,7 +6,7 @@ use second::compare::driver::hunt;
 use second::compare::history::{check, check_agreement, play};
 use second::compare::minima::report;
 use second::compare::shrink::shrink;
-use second::compare::trouble::trouble;
+use second::compare::trouble::{trouble, Work};
 use second::generate::case::case;
 use second::model::answer::{Answer, Refusal};
 use second::mutants;
@@ -95,6 +95,20 @@ fn a_mismatch_is_made_small_and_stays_one() {
         assert!(trouble(&MODEL, &plan, &work).is_none(), "{name}");
         assert!(plan.len() <= 60, "{name}: {} bytes", plan.len());
     }
+}
+
+#[test]
+fn a_list_of_events_is_made_small_too() {
+    let book = mutant("run plays left-over bytes");
+    let (_, mismatch) = hunt(&book, 1, 300).expect("it is caught");
+    let (plan, work) = shrink(&book, &mismatch.plan, &mismatch.work);
+    assert!(trouble(&book, &plan, &work).is_some());
+    assert!(trouble(&MODEL, &plan, &work).is_none());
+    let Work::List(list) = work else {
+        panic!("only a list of events shows it");
+    };
+    assert_eq!((list.answers, list.bytes), (1, 0));
+    assert!(list.events.len() < 3);
 }
 
 #[test]

@@ -2,8 +2,9 @@
 
 use second::book::MODEL;
 use second::document::{sessions, BENCH_PLAN};
-use second::model::plan::Lie;
+use second::model::plan::{Entry, Lie, Plan, Route, Track};
 use second::model::reading::read;
+use second::model::rules::{check, RULES};
 use second::model::state::State;
 use second::model::step::step;
 use second::subject::Subject;
@@ -37,6 +38,70 @@ fn the_bench_session_and_every_slip_are_there() {
         15
     );
     assert!(names.contains(&"bench"));
+}
+
+#[test]
+fn a_plan_for_a_last_row_breaks_its_rule_there_and_nothing_else() {
+    let sessions = second::sessions::all();
+    let mut rules = Vec::new();
+    for session in &sessions {
+        let rest = session.name.strip_prefix("rule-");
+        let Some(number) = rest.and_then(|rest| rest.strip_suffix("-last-row")) else {
+            continue;
+        };
+        let rule: usize = number.parse().expect("a rule has a number");
+        let plan = read(session.plan.as_ref().expect("there is a plan")).expect("it can be read");
+        let rows = match rule {
+            1..=3 => plan.tracks.len(),
+            4 => plan.homes.len(),
+            5 | 12 => plan.entries.len(),
+            _ => plan.routes.len(),
+        };
+        for (lowest_row, tried) in RULES.iter().zip(1..) {
+            let expected = (tried == rule).then_some(rows - 1);
+            assert_eq!(lowest_row(&plan), expected, "{}: {tried}", session.name);
+        }
+        assert!(rows > 1, "{}", session.name);
+        rules.push(rule);
+    }
+    assert_eq!(rules, [1, 2, 3, 4, 5, 6, 7, 10]);
+}
+
+#[test]
+fn a_row_past_the_last_would_break_a_rule_where_the_exit_is_first() {
+    let sessions = second::sessions::all();
+    let session = sessions
+        .iter()
+        .find(|session| session.name == "accepted-exit-first");
+    let file = session.and_then(|session| session.plan.as_ref());
+    let plan = read(file.expect("there is such a plan")).expect("it can be read");
+    let broken = |change: fn(&mut Plan)| {
+        let mut plan = plan.clone();
+        change(&mut plan);
+        check(&plan).map(|broken| (broken.rule, broken.row))
+    };
+    let empty_entry = |plan: &mut Plan| {
+        plan.entries.push(Entry {
+            track: 0,
+            clear: vec![],
+        })
+    };
+    let empty_route = |plan: &mut Plan| {
+        plan.routes.push(Route {
+            start: 0,
+            path: vec![0],
+            clear: vec![],
+            normal: vec![],
+            reverse: vec![],
+            releases: vec![],
+        })
+    };
+    assert_eq!(broken(|_| ()), None);
+    let track_more = |plan: &mut Plan| plan.tracks.push(Track::Plain { next: 0 });
+    assert_eq!(broken(track_more), Some((3, 0)));
+    assert_eq!(broken(|plan| plan.homes.push(0)), Some((4, 2)));
+    assert_eq!(broken(empty_entry), Some((5, 2)));
+    assert_eq!(broken(empty_route), Some((6, 2)));
 }
 
 #[test]

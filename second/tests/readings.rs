@@ -253,7 +253,7 @@ fn an_unreadable_plan_answers_every_event_with_its_form() {
     let mut arrays = Arrays::fresh();
     arrays.trains = [9; 64];
     let before = arrays.clone();
-    let answer = MODEL.prepare(file).step(&mut arrays, [9, 9, 9]);
+    let answer = MODEL.prepare(file).step(&mut arrays, &[9, 9, 9]);
     assert_eq!(Some(answer), at(1, 53).map(Answer::Unreadable));
     assert_eq!(arrays, before);
 }

@@ -8,6 +8,7 @@ use native.Mathlib.Numerals.{add-one}
 use lib.ListN.{length, getD, set}
 use lib.Dec.{eqb, ltb}
 use borrow.Author.Tests.{eq-eqb, ne-eqb, lt-ltb, le-ltb}
+use borrow.Rule.Slice.PartMut.{midOf, putMid}
 use types.Run.{OneOf, miss}
 use denote.Enum.Declared.{tagOf}
 use Rattle.laws.specs.Lists.{anyOf, has, joined}
@@ -16,15 +17,22 @@ use Rattle.laws.specs.Tables.{tab, length-tab, getD-tab, tab-cong, tab-of}
 use Rattle.plan.specs.declared.Release.{Release}
 use Rattle.plan.specs.Limits.{mostTracks, mostSignals}
 use Rattle.plan.specs.Records.{Plan, homeOf, routeOf}
-use Rattle.plan.specs.File.{releaseFile}
+use Rattle.plan.specs.File.{releaseFile, Readable}
+use Rattle.state.specs.declared.State.{State}
 use Rattle.state.specs.Holds.{room, adding}
 use Rattle.state.specs.State.{stateOf, noTrain, normalLie, reverseLie, red}
+use Rattle.state.specs.Cells.{trainsFrom, liesFrom, signalsFrom, cellsSize, part, trainsIn, liesIn, signalsIn, stateIn}
+use Rattle.state.proofs.Parts.{back}
+use Rattle.events.specs.declared.Deed.{Deed}
+use Rattle.events.specs.declared.Deed.the-variants.{Granted, Cancelled, Entered, Moved, Left}
 use Rattle.events.specs.declared.Answer.{Answer}
-use Rattle.events.specs.declared.Answer.the-variants.{Refused, Accident, Granted, Cancelled, Entered, Moved, Left}
-use Rattle.events.proofs.Answer.{the-type}
+use Rattle.events.specs.declared.Answer.the-variants.{Refused, Accident, Done}
+use Rattle.events.proofs.Answer.{the-type as answers}
+use Rattle.events.proofs.Deed.{the-type as deeds}
+use Rattle.events.specs.Answers.{deedArrives, deedLeaves}
 use Rattle.events.specs.Decide.{listed, lieAfter}
-use Rattle.events.specs.After.{stood, gone, newTrains, newLies, taken, dropped, releases, droppedAll, arrived, newHolds, shown, standsAt, reddened, newSignals, after}
-use Rattle.act.specs.Cells.{turned, held, released, freed}
+use Rattle.events.specs.After.{stood, gone, newTrains, newLies, taken, dropped, releases, droppedAll, arrived, routeHolds, givenBack, newHolds, shown, standsAt, reddened, routeSignals, redBehind, newSignals, afterDeed, after, Acts}
+use Rattle.act.specs.Cells.{turned, held, released, freed, Ready}
 use Rattle.act.proofs.Walks.{written, upTo, done-length, done-next, done-set}
 
 -- The walks, turn by turn.
@@ -62,8 +70,8 @@ module _ (p : Plan) (u : ℕ) (m : List ℕ) (s : ℕ) {homes : List ℕ} (e : h
   red-beyond h = rw (← e, le-ltb s (length homes) h)
 
 -- Arrivals: what the routes below n have given back.
-unfoldable pub givenBack : Plan → ℕ → List ℕ → ℕ → ℕ → ℕ
-givenBack p v m n q = droppedAll n (releases p v q) (getD m q 0)
+unfoldable pub gaveBack : Plan → ℕ → List ℕ → ℕ → ℕ → ℕ
+gaveBack p v m n q = droppedAll n (releases p v q) (getD m q 0)
 
 released-has : (v q : ℕ) (l : List Release) → has q (released v (joined releaseFile l)) ≡ anyOf (λ release. eqb (release .track) v && eqb (release .point) q) l
 unfolding joined releaseFile released has anyOf
@@ -77,77 +85,73 @@ released-has v q (a ∷ l) = go (eqb (a .track) v) (released-has v q l)
     go false ih = ih
 
 module _ (p : Plan) (v : ℕ) (m : List ℕ) where
-  pub back-none : length m ≡ mostTracks → m ≡ tab mostTracks (givenBack p v m 0)
-  unfolding givenBack droppedAll
-  back-none e = tab-of m mostTracks (givenBack p v m 0) 0 e (λ q h. refl)
+  pub back-none : length m ≡ mostTracks → m ≡ tab mostTracks (gaveBack p v m 0)
+  unfolding gaveBack droppedAll
+  back-none e = tab-of m mostTracks (gaveBack p v m 0) 0 e (λ q h. refl)
 
-  pub back-more : (r : ℕ) (h l : List ℕ) → h ≡ tab mostTracks (givenBack p v m r) → l ≡ joined releaseFile (routeOf p r .releases)
-      → tab (length h) (freed (released v l) r h) ≡ tab mostTracks (givenBack p v m (r + 1))
-  unfolding givenBack droppedAll freed releases
-  back-more r h l e w = rw (e, length-tab mostTracks (givenBack p v m r), w) (tab-cong mostTracks _ _ at)
+  pub back-more : (r : ℕ) (h l : List ℕ) → h ≡ tab mostTracks (gaveBack p v m r) → l ≡ joined releaseFile (routeOf p r .releases)
+      → tab (length h) (freed (released v l) r h) ≡ tab mostTracks (gaveBack p v m (r + 1))
+  unfolding gaveBack droppedAll freed releases
+  back-more r h l e w = rw (e, length-tab mostTracks (gaveBack p v m r), w) (tab-cong mostTracks _ _ at)
     where
       at : (q : ℕ) → q < mostTracks
-          → freed (released v (joined releaseFile (routeOf p r .releases))) r (tab mostTracks (givenBack p v m r)) q ≡ givenBack p v m (r + 1) q
-      at q k = rw (getD-tab mostTracks (givenBack p v m r) q 0 k, released-has v q (routeOf p r .releases), add-one)
+          → freed (released v (joined releaseFile (routeOf p r .releases))) r (tab mostTracks (gaveBack p v m r)) q ≡ gaveBack p v m (r + 1) q
+      at q k = rw (getD-tab mostTracks (gaveBack p v m r) q 0 k, released-has v q (routeOf p r .releases), add-one)
 
-  pub back-all : (n : ℕ) → n ≡ length (p .routes) → tab mostTracks (givenBack p v m n) ≡ tab mostTracks (arrived p v m)
-  unfolding givenBack arrived
+  pub back-all : (n : ℕ) → n ≡ length (p .routes) → tab mostTracks (gaveBack p v m n) ≡ tab mostTracks (arrived p v m)
+  unfolding gaveBack arrived
   back-all n e = rw e
 
--- What an answer leaves as it was: the arm that does nothing knows the answer by the number of its variant.
+-- What a deed leaves as it was: the arm that does nothing knows the deed by the number of its variant.
 
 abbrev keepTrains : List ℕ
-keepTrains = 0 ∷ 1 ∷ 2 ∷ 3 ∷ []
+keepTrains = 0 ∷ 1 ∷ []
 
 abbrev keepLies : List ℕ
-keepLies = 0 ∷ 1 ∷ 3 ∷ 4 ∷ 5 ∷ 6 ∷ []
+keepLies = 1 ∷ 2 ∷ 3 ∷ 4 ∷ []
 
 abbrev keepHolds : List ℕ
-keepHolds = 0 ∷ 1 ∷ 4 ∷ 6 ∷ []
+keepHolds = 2 ∷ 4 ∷ []
 
-abbrev keepSignals : List ℕ
-keepSignals = 0 ∷ 1 ∷ 4 ∷ []
-
-pub trains-kept : (m : List ℕ) (a : Answer) → OneOf keepTrains (tagOf the-type a) → m ≡ newTrains m a
+pub trains-kept : (m : List ℕ) (a : Deed) → OneOf keepTrains (tagOf deeds a) → m ≡ newTrains m a
 unfolding newTrains
-trains-kept m (Refused refusal) k = refl
-trains-kept m (Accident harm) k = refl
 trains-kept m (Granted r) k = refl
 trains-kept m (Cancelled r) k = refl
-trains-kept m (Entered train u) k = absurd (miss keepTrains 4 tt k)
-trains-kept m (Moved train u v) k = absurd (miss keepTrains 5 tt k)
-trains-kept m (Left train u) k = absurd (miss keepTrains 6 tt k)
+trains-kept m (Entered train u) k = absurd (miss keepTrains 2 tt k)
+trains-kept m (Moved train u v) k = absurd (miss keepTrains 3 tt k)
+trains-kept m (Left train u) k = absurd (miss keepTrains 4 tt k)
 
 module _ (p : Plan) (m : List ℕ) where
-  pub lies-kept : (a : Answer) → OneOf keepLies (tagOf the-type a) → m ≡ newLies p m a
+  pub lies-kept : (a : Deed) → OneOf keepLies (tagOf deeds a) → m ≡ newLies p m a
   unfolding newLies
-  lies-kept (Refused refusal) k = refl
-  lies-kept (Accident harm) k = refl
-  lies-kept (Granted r) k = absurd (miss keepLies 2 tt k)
+  lies-kept (Granted r) k = absurd (miss keepLies 0 tt k)
   lies-kept (Cancelled r) k = refl
   lies-kept (Entered train u) k = refl
   lies-kept (Moved train u v) k = refl
   lies-kept (Left train u) k = refl
 
-  pub holds-kept : (a : Answer) → OneOf keepHolds (tagOf the-type a) → m ≡ newHolds p m a
-  unfolding newHolds
-  holds-kept (Refused refusal) k = refl
-  holds-kept (Accident harm) k = refl
-  holds-kept (Granted r) k = absurd (miss keepHolds 2 tt k)
-  holds-kept (Cancelled r) k = absurd (miss keepHolds 3 tt k)
+  pub holds-kept : (a : Deed) → OneOf keepHolds (tagOf deeds a) → m ≡ newHolds p m a
+  unfolding newHolds givenBack deedArrives routeHolds
+  holds-kept (Granted r) k = absurd (miss keepHolds 0 tt k)
+  holds-kept (Cancelled r) k = absurd (miss keepHolds 1 tt k)
   holds-kept (Entered train u) k = refl
-  holds-kept (Moved train u v) k = absurd (miss keepHolds 5 tt k)
+  holds-kept (Moved train u v) k = absurd (miss keepHolds 3 tt k)
   holds-kept (Left train u) k = refl
 
-  pub signals-kept : (a : Answer) → OneOf keepSignals (tagOf the-type a) → m ≡ newSignals p m a
-  unfolding newSignals
-  signals-kept (Refused refusal) k = refl
-  signals-kept (Accident harm) k = refl
-  signals-kept (Granted r) k = absurd (miss keepSignals 2 tt k)
-  signals-kept (Cancelled r) k = absurd (miss keepSignals 3 tt k)
-  signals-kept (Entered train u) k = refl
-  signals-kept (Moved train u v) k = absurd (miss keepSignals 5 tt k)
-  signals-kept (Left train u) k = absurd (miss keepSignals 6 tt k)
+-- An answer that is no deed changes nothing.
+pub nothing-done : (p : Plan) (a : Answer) (σ : State) → OneOf (0 ∷ 1 ∷ []) (tagOf answers a) → σ ≡ after p σ a
+unfolding after
+nothing-done p (Refused refusal) σ k = refl
+nothing-done p (Accident harm) σ k = refl
+nothing-done p (Done deed) σ k = absurd (miss (0 ∷ 1 ∷ []) 2 tt k)
+
+pub deed-done : (p : Plan) (a : Answer) (σ : State) {deed : Deed} {τ : State} → a ≡ Done deed → τ ≡ afterDeed p σ deed → τ ≡ after p σ a
+unfolding after
+deed-done p a σ e z = rw e z
+
+pub deed-ready : (p : Plan) (a : Answer) {deed : Deed} → Readable p → Acts p a → a ≡ Done deed → Ready p deed
+unfolding Acts
+deed-ready p a R w e = record { readable = R; named = rw e at w }
 
 -- Trains.
 module _ (m : List ℕ) (long : length m ≡ mostTracks) where
@@ -159,7 +163,7 @@ module _ (m : List ℕ) (long : length m ≡ mostTracks) where
   unfolding gone
   gone-set u = written m u noTrain ∙ ap (λ (n : ℕ). tab n (gone u m)) long
 
-module _ (m : List ℕ) (a : Answer) (long : length m ≡ mostTracks) where
+module _ (m : List ℕ) (a : Deed) (long : length m ≡ mostTracks) where
   pub entered-trains : {train u : ℕ} → a ≡ Entered train u → set m u train ≡ newTrains m a
   unfolding newTrains
   entered-trains {train} {u} e = rw e (stood-set m long train u)
@@ -174,7 +178,7 @@ module _ (m : List ℕ) (a : Answer) (long : length m ≡ mostTracks) where
   left-trains {train} {u} e = rw e (gone-set m long u)
 
 -- Lies and holds of the two lists of a route, one after the other.
-module _ (p : Plan) (a : Answer) (m : List ℕ) (long : length m ≡ mostTracks) where
+module _ (p : Plan) (a : Deed) (m : List ℕ) (long : length m ≡ mostTracks) where
   module _ {r : ℕ} (e : a ≡ Granted r) {normal reverse : List ℕ} (n : normal ≡ routeOf p r .normal) (v : reverse ≡ routeOf p r .reverse) (m₁ m₂ : List ℕ) where
     pub granted-lies : m₁ ≡ tab (length m) (turned normal normalLie m) → m₂ ≡ tab (length m₁) (turned reverse reverseLie m₁) → m₂ ≡ newLies p m a
     unfolding newLies turned lieAfter
@@ -183,7 +187,7 @@ module _ (p : Plan) (a : Answer) (m : List ℕ) (long : length m ≡ mostTracks)
         (tab-cong mostTracks _ _ (λ q h. rw (getD-tab mostTracks (turned normal normalLie m) q 0 h)))
 
     pub granted-holds : m₁ ≡ tab (length m) (held normal r m) → m₂ ≡ tab (length m₁) (held reverse r m₁) → m₂ ≡ newHolds p m a
-    unfolding newHolds held taken listed
+    unfolding newHolds givenBack deedArrives routeHolds held taken listed
     granted-holds e₁ e₂ =
         e₂ ∙ rw (e, ← n, ← v, e₁, length-tab (length m) (held normal r m), long)
         (tab-cong mostTracks _ _ (λ q h. rw (getD-tab mostTracks (held normal r m) q 0 h) (go (getD m q 0) (has q normal) (has q reverse))))
@@ -194,38 +198,66 @@ module _ (p : Plan) (a : Answer) (m : List ℕ) (long : length m ≡ mostTracks)
         go x false c = refl
 
   pub cancelled-holds : {r : ℕ} → a ≡ Cancelled r → {h : List ℕ} → h ≡ tab (length m) (dropped r m) → h ≡ newHolds p m a
-  unfolding newHolds
+  unfolding newHolds givenBack deedArrives routeHolds
   cancelled-holds e w = w ∙ rw (e, long)
 
   pub moved-holds : {train u v : ℕ} → a ≡ Moved train u v → {h : List ℕ} → h ≡ tab mostTracks (arrived p v m) → h ≡ newHolds p m a
-  unfolding newHolds
+  unfolding newHolds givenBack deedArrives routeHolds
   moved-holds e w = w ∙ rw e
 
 -- Signals.
-module _ (p : Plan) (a : Answer) (m : List ℕ) where
+module _ (p : Plan) (a : Deed) (m : List ℕ) where
   module _ (long : length m ≡ mostSignals) where
     shown-set : (s colour : ℕ) → set m s colour ≡ tab mostSignals (shown s colour m)
     unfolding shown
     shown-set s colour = written m s colour ∙ ap (λ (n : ℕ). tab n (shown s colour m)) long
 
     pub granted-signals : {r s : ℕ} → a ≡ Granted r → s ≡ routeOf p r .start → set m s (r + 1) ≡ newSignals p m a
-    unfolding newSignals
+    unfolding newSignals redBehind deedLeaves routeSignals
     granted-signals {r} {s} e w = rw (e, ← w, add-one) (shown-set s (suc r))
 
     pub cancelled-signals : {r s : ℕ} → a ≡ Cancelled r → s ≡ routeOf p r .start → set m s red ≡ newSignals p m a
-    unfolding newSignals
+    unfolding newSignals redBehind deedLeaves routeSignals
     cancelled-signals {r} {s} e w = rw (e, ← w) (shown-set s red)
 
+  pub entered-signals : {train u : ℕ} → a ≡ Entered train u → m ≡ newSignals p m a
+  unfolding newSignals redBehind deedLeaves routeSignals
+  entered-signals e = rw e
+
   pub moved-signals : {train u v : ℕ} → a ≡ Moved train u v → {h : List ℕ} → h ≡ tab mostSignals (reddened p u m) → h ≡ newSignals p m a
-  unfolding newSignals
+  unfolding newSignals redBehind deedLeaves routeSignals
   moved-signals e w = w ∙ rw e
 
   pub left-signals : {train u : ℕ} → a ≡ Left train u → {h : List ℕ} → h ≡ tab mostSignals (reddened p u m) → h ≡ newSignals p m a
-  unfolding newSignals
+  unfolding newSignals redBehind deedLeaves routeSignals
   left-signals e w = w ∙ rw e
 
--- The four arrays together.
-pub acted : (p : Plan) (t l h s : List ℕ) (a : Answer) {t′ l′ h′ s′ : List ℕ} → t′ ≡ newTrains t a → l′ ≡ newLies p l a → h′ ≡ newHolds p h a → s′ ≡ newSignals p s a
-    → stateOf t′ l′ h′ s′ ≡ after p (stateOf t l h s) a
-unfolding after
-acted p t l h s a e₁ e₂ e₃ e₄ = rw (e₁, e₂, e₃, e₄)
+-- The parts of the cells come back one after the other, and then the state is whole.
+
+joins : {t t′ y y′ h h′ s s′ : List ℕ} → t ≡ t′ → y ≡ y′ → h ≡ h′ → s ≡ s′ → stateOf t y h s ≡ stateOf t′ y′ h′ s′
+joins et ey eh es = rw (et, ey, eh, es)
+
+module _ (p : Plan) (a : Deed) (l h t y s : List ℕ) (n : length l ≡ cellsSize) where
+  abbrev l₁ : List ℕ
+  l₁ = putMid trainsFrom mostTracks l t
+
+  abbrev l₂ : List ℕ
+  l₂ = putMid liesFrom mostTracks l₁ y
+
+  abbrev l₃ : List ℕ
+  l₃ = putMid signalsFrom mostSignals l₂ s
+
+  pub acted : {h′ : List ℕ} → length l₁ ≡ length l → length l₂ ≡ length l₁ → length l₃ ≡ length l₂
+      → t ≡ newTrains (midOf trainsFrom mostTracks l) a → y ≡ newLies p (midOf liesFrom mostTracks l₁) a → s ≡ newSignals p (midOf signalsFrom mostSignals l₂) a
+      → h′ ≡ newHolds p h a → stateIn l₃ h′ ≡ afterDeed p (stateIn l h) a
+  unfolding trainsIn liesIn signalsIn part afterDeed
+  acted n₁ n₂ n₃ et ey es eh =
+      let b₁ = back trainsFrom liesFrom l t (omega arith) (omega arith) n₁ in
+      let b₂ = back liesFrom signalsFrom l₁ y (omega arith) (omega arith) n₂ in
+      let b₃ = back signalsFrom cellsSize l₂ s (omega arith) (omega arith) n₃ in
+      joins
+      (b₃ .before trainsFrom mostTracks (omega arith) ∙ b₂ .before trainsFrom mostTracks (omega arith) ∙ b₁ .own mostTracks refl ∙ et)
+      (b₃ .before liesFrom mostTracks (omega arith) ∙ b₂ .own mostTracks refl ∙ ey ∙ ap (λ (m : List ℕ). newLies p m a) (b₁ .after liesFrom mostTracks (omega arith)))
+      eh
+      (b₃ .own mostSignals refl ∙ es
+      ∙ ap (λ (m : List ℕ). newSignals p m a) (b₂ .after signalsFrom mostSignals (omega arith) ∙ b₁ .after signalsFrom mostSignals (omega arith)))

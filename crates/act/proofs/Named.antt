@@ -1,30 +1,20 @@
--- What a plan that can be read names is there, and so is what an answer names.
-use mathlib.Core.Path.{_≡_, refl}
-use mathlib.Core.Bool.{false}
-use mathlib.Core.Logic.{inl, inr}
+-- What a plan that can be read names is there, and so is what a deed names.
+use mathlib.Core.Path.{_≡_}
 use mathlib.Core.List.{List, [], _∷_}
 use Prim.Native.Nat.{ℕ, _<_}
 use native.Mathlib.Omega.{arith}
-use lib.ListN.{length, List·getD-eq-default}
-use Rattle.laws.specs.Tests.{Is, clash, below?}
+use lib.ListN.{length}
+use Rattle.laws.specs.Tests.{Is}
 use Rattle.laws.specs.Lists.{All, all-at, all-map, joined}
-use Rattle.plan.specs.declared.Track.{Track}
 use Rattle.plan.specs.declared.Release.{Release}
 use Rattle.plan.specs.Limits.{mostTracks, mostSignals}
-use Rattle.plan.specs.Records.{Plan, noTrack, noRoute, isPoint, routeOf}
+use Rattle.plan.specs.Records.{Plan, noRoute, isPoint, routeOf}
 use Rattle.plan.specs.File.{releaseFile, ReadableRelease, ReadableRoute, Readable}
-use Rattle.events.specs.declared.Answer.{Answer}
-use Rattle.events.specs.declared.Answer.the-variants.{Granted, Cancelled, Entered, Moved, Left}
-use Rattle.events.specs.After.{Acts}
+use Rattle.events.specs.declared.Deed.{Deed}
+use Rattle.events.specs.declared.Deed.the-variants.{Granted, Cancelled, Entered, Moved, Left}
+use Rattle.events.specs.After.{Names}
+use Rattle.events.proofs.Facts.{point-below}
 use Rattle.act.specs.Cells.{Ready, Placed}
-
--- a point is a track of the plan
-point-below : (tracks : List Track) (q : ℕ) → Is (isPoint tracks q) → q < length tracks
-unfolding isPoint
-point-below tracks q e = elim (below? q (length tracks)) [
-  | inl h ↦ h
-  | inr h ↦ clash {b = false} (rw (List·getD-eq-default tracks noTrack h) at e) refl
-]
 
 -- A route that there is.
 module _ (p : Plan) (readable : Readable p) (r : ℕ) (there : r < length (p .routes)) where
@@ -54,15 +44,15 @@ module _ (p : Plan) (readable : Readable p) (r : ℕ) (there : r < length (p .ro
         go [] w = tt
         go (a ∷ l) w = (omega (arith, w .0 .track, readable .tracks .few), (below (a .point) (w .0 .point), go l (w .1)))
 
--- The route of an answer.
-module _ (p : Plan) (a : Answer) (ready : Ready p a) where
+-- The route of a deed.
+module _ (p : Plan) (a : Deed) (ready : Ready p a) where
   pub granted-there : {r : ℕ} → a ≡ Granted r → r < length (p .routes)
-  unfolding Acts
-  granted-there e = rw e at (ready .acts)
+  unfolding Names
+  granted-there e = rw e at (ready .named)
 
   cancelled-there : {r : ℕ} → a ≡ Cancelled r → r < length (p .routes)
-  unfolding Acts
-  cancelled-there e = rw e at (ready .acts)
+  unfolding Names
+  cancelled-there e = rw e at (ready .named)
 
   pub granted-start : {r s : ℕ} → a ≡ Granted r → s ≡ routeOf p r .start → s < mostSignals
   granted-start {r} e w = rw w (start-below p (ready .readable) r (granted-there e))
@@ -77,20 +67,20 @@ module _ (p : Plan) (a : Answer) (ready : Ready p a) where
     pub granted-reverse : {l : List ℕ} → l ≡ routeOf p r .reverse → All (λ q. q < length cells) l
     granted-reverse w = rw w (reverse-below p (ready .readable) r (granted-there e) cells long)
 
--- The tracks of an answer.
-module _ (trains : List ℕ) (a : Answer) (placed : Placed trains a) where
+-- The tracks of a deed.
+module _ (trains : List ℕ) (a : Deed) (placed : Placed trains a) where
   pub entered-below : {train u : ℕ} → a ≡ Entered train u → u < length trains
-  unfolding Acts
-  entered-below e = let h = rw e at (placed .acts) in omega (arith, h, placed .few, placed .long)
+  unfolding Names
+  entered-below e = let h = rw e at (placed .named) in omega (arith, h, placed .few, placed .long)
 
   pub to-below : {train u v : ℕ} → a ≡ Moved train u v → v < length trains
-  unfolding Acts
-  to-below e = let h = rw e at (placed .acts) in omega (arith, h .1, placed .few, placed .long)
+  unfolding Names
+  to-below e = let h = rw e at (placed .named) in omega (arith, h .1, placed .few, placed .long)
 
   pub from-below : {train u v : ℕ} → a ≡ Moved train u v → u < length trains
-  unfolding Acts
-  from-below e = let h = rw e at (placed .acts) in omega (arith, h .0, placed .few, placed .long)
+  unfolding Names
+  from-below e = let h = rw e at (placed .named) in omega (arith, h .0, placed .few, placed .long)
 
   pub left-below : {train u : ℕ} → a ≡ Left train u → u < length trains
-  unfolding Acts
-  left-below e = let h = rw e at (placed .acts) in omega (arith, h, placed .few, placed .long)
+  unfolding Names
+  left-below e = let h = rw e at (placed .named) in omega (arith, h, placed .few, placed .long)

@@ -12,8 +12,8 @@ use Rattle.plan.specs.Records.{Plan}
 use Rattle.plan.specs.File.{Readable}
 use Rattle.state.specs.Holds.{adding}
 use Rattle.state.specs.State.{normalLie}
-use Rattle.events.specs.declared.Answer.{Answer}
-use Rattle.events.specs.After.{Acts}
+use Rattle.events.specs.declared.Deed.{Deed}
+use Rattle.events.specs.After.{Names}
 
 -- every point of a list is turned
 unfoldable pub turned : List ℕ → ℕ → List ℕ → ℕ → ℕ
@@ -33,14 +33,14 @@ released v (track ∷ (point ∷ rest)) = cond (eqb track v) (point ∷ released
 unfoldable pub freed : List ℕ → ℕ → List ℕ → ℕ → ℕ
 freed list route holds q = cond (has q list) (excluding (getD holds q 0) route) (getD holds q 0)
 
--- The plan can be read and has what the answer names.
-pub record Ready (p : Plan) (answer : Answer) : Type 0 where
+-- The plan can be read and has what the deed names.
+pub record Ready (p : Plan) (deed : Deed) : Type 0 where
   pub readable : Readable p
-  pub acts : Acts p answer
+  pub named : Names p deed
 
--- Trains need no plan: some plan has what the answer names, and there is a cell for each of its tracks.
-pub record Placed (trains : List ℕ) (answer : Answer) : Type 0 where
+-- Trains need no plan: some plan has what the deed names, and there is a cell for each of its tracks.
+pub record Placed (trains : List ℕ) (deed : Deed) : Type 0 where
   pub plan : Plan
-  pub acts : Acts plan answer
+  pub named : Names plan deed
   pub few : length (plan .tracks) ≤ mostTracks
   pub long : length trains ≡ mostTracks

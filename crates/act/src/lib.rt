@@ -1,5 +1,6 @@
-// The code that acts on an answer. It goes by the answer alone, array by array, as the definition of the state after does.
+// The code that acts on an answer. It goes by the answer alone: a deed goes array by array, as the definition of the state after does.
 use events::Answer;
+use events::Deed;
 use plan::image::homes;
 use plan::image::normal_of;
 use plan::image::releases_of;
@@ -8,9 +9,11 @@ use plan::image::routes;
 use plan::image::start_of;
 use plan::image::wide;
 use plan::limits::IMAGE;
-use plan::limits::SIGNALS;
-use plan::limits::TRACKS;
 use state::HoldSet;
+use state::cells::CELLS;
+use state::cells::LIES_FROM;
+use state::cells::SIGNALS_FROM;
+use state::cells::TRAINS_FROM;
 ghost use mathlib.Core.Path.{_≡_};
 ghost use Prim.Native.Nat.{_<_};
 ghost use lib.ListN.{length};
@@ -19,8 +22,8 @@ ghost use Rattle.laws.specs.Tables.{tab};
 ghost use Rattle.plan.specs.Limits.{mostTracks, mostSignals};
 ghost use Rattle.plan.specs.File.{Readable};
 ghost use Rattle.plan.specs.Image.{planOf};
-ghost use Rattle.state.specs.State.{stateOf};
-ghost use Rattle.events.specs.After.{dropped, arrived, reddened, newTrains, newLies, newHolds, newSignals, after};
+ghost use Rattle.state.specs.Cells.{cellsSize, stateIn};
+ghost use Rattle.events.specs.After.{dropped, arrived, reddened, newTrains, newLies, newHolds, newSignals, afterDeed, after, Acts};
 ghost use Rattle.act.specs.Cells.{turned, held, released, freed, Ready, Placed};
 
 const NO_TRAIN: u8 = 0;
@@ -31,50 +34,54 @@ const REVERSE: u8 = 1;
 
 const RED: u8 = 0;
 
-// The state after the answer.
-pub fn act(
-    image: &[u8; IMAGE],
-    trains: &mut [u8; TRACKS],
-    lies: &mut [u8; TRACKS],
-    holds: &mut [u64; TRACKS],
-    signals: &mut [u8; SIGNALS],
-    answer: Answer,
-)
-    requires { ⌜ Ready (planOf (now image)) answer ⌝ }
-    ensures { λ _. ⌜ stateOf (now (trains .exit)) (now (lies .exit)) (now (holds .exit)) (now (signals .exit)) ≡ after (planOf (now (image .entry))) (stateOf (now (trains .entry)) (now (lies .entry)) (now (holds .entry)) (now (signals .entry))) answer ⌝ }
+// The state after the answer. Only a deed changes it.
+pub fn act(image: &[u8; IMAGE], cells: &mut [u8], holds: &mut [u64], answer: Answer)
+    requires { ⌜ Readable (planOf (now image)) × Acts (planOf (now image)) answer × (length (now cells) ≡ cellsSize) × (length (now holds) ≡ mostTracks) ⌝ }
+    ensures { λ _. ⌜ stateIn (now (cells .exit)) (now (holds .exit)) ≡ after (planOf (now (image .entry))) (stateIn (now (cells .entry)) (now (holds .entry))) answer ⌝ }
 {
-    act_trains(trains, answer);
-    act_lies(image, lies, answer);
-    act_holds(image, holds, answer);
-    act_signals(image, signals, answer);
+    let Answer::Done(deed) = answer else {
+        return;
+    };
+    carry_out(image, cells, holds, deed);
 }
 
-// A train's front stands on a track; its rear leaves one. A move is both.
-fn act_trains(trains: &mut [u8], answer: Answer)
-    requires { ⌜ Placed (now trains) answer ⌝ }
-    ensures { λ _. ⌜ now (trains .exit) ≡ newTrains (now (trains .entry)) answer ⌝ }
+// Each part of the state is lent to the function that acts on it.
+fn carry_out(image: &[u8; IMAGE], cells: &mut [u8], holds: &mut [u64], deed: Deed)
+    requires { ⌜ Ready (planOf (now image)) deed × (length (now cells) ≡ cellsSize) × (length (now holds) ≡ mostTracks) ⌝ }
+    ensures { λ _. ⌜ stateIn (now (cells .exit)) (now (holds .exit)) ≡ afterDeed (planOf (now (image .entry))) (stateIn (now (cells .entry)) (now (holds .entry))) deed ⌝ }
 {
-    match answer {
-        Answer::Entered { train, track } => {
+    act_trains(&mut cells[TRAINS_FROM..LIES_FROM], deed);
+    act_lies(image, &mut cells[LIES_FROM..SIGNALS_FROM], deed);
+    act_signals(image, &mut cells[SIGNALS_FROM..CELLS], deed);
+    act_holds(image, holds, deed);
+}
+
+// A train comes to stand on a track; a train is gone from one. A move is both.
+fn act_trains(trains: &mut [u8], deed: Deed)
+    requires { ⌜ Placed (now trains) deed ⌝ }
+    ensures { λ _. ⌜ now (trains .exit) ≡ newTrains (now (trains .entry)) deed ⌝ }
+{
+    match deed {
+        Deed::Entered { train, track } => {
             trains[track] = train;
         }
-        Answer::Moved { train, from, to } => {
+        Deed::Moved { train, from, to } => {
             trains[to] = train;
             trains[from] = NO_TRAIN;
         }
-        Answer::Left { from, .. } => {
+        Deed::Left { from, .. } => {
             trains[from] = NO_TRAIN;
         }
-        Answer::Refused(_) | Answer::Accident(_) | Answer::Granted(_) | Answer::Cancelled(_) => {}
+        Deed::Granted(_) | Deed::Cancelled(_) => {}
     }
 }
 
 // Only a grant turns points: normal points go normal, then reverse points reverse.
-fn act_lies(image: &[u8; IMAGE], lies: &mut [u8], answer: Answer)
-    requires { ⌜ Ready (planOf (now image)) answer × (length (now lies) ≡ mostTracks) ⌝ }
-    ensures { λ _. ⌜ now (lies .exit) ≡ newLies (planOf (now (image .entry))) (now (lies .entry)) answer ⌝ }
+fn act_lies(image: &[u8; IMAGE], lies: &mut [u8], deed: Deed)
+    requires { ⌜ Ready (planOf (now image)) deed × (length (now lies) ≡ mostTracks) ⌝ }
+    ensures { λ _. ⌜ now (lies .exit) ≡ newLies (planOf (now (image .entry))) (now (lies .entry)) deed ⌝ }
 {
-    let Answer::Granted(route) = answer else {
+    let Deed::Granted(route) = deed else {
         return;
     };
     turn(normal_of(image, route), NORMAL, lies);
@@ -82,39 +89,38 @@ fn act_lies(image: &[u8; IMAGE], lies: &mut [u8], answer: Answer)
 }
 
 // A grant takes the listed points, a cancel drops all holds of the route, a train's arrival gives back what the releases name.
-fn act_holds(image: &[u8; IMAGE], holds: &mut [u64], answer: Answer)
-    requires { ⌜ Ready (planOf (now image)) answer × (length (now holds) ≡ mostTracks) ⌝ }
-    ensures { λ _. ⌜ now (holds .exit) ≡ newHolds (planOf (now (image .entry))) (now (holds .entry)) answer ⌝ }
+fn act_holds(image: &[u8; IMAGE], holds: &mut [u64], deed: Deed)
+    requires { ⌜ Ready (planOf (now image)) deed × (length (now holds) ≡ mostTracks) ⌝ }
+    ensures { λ _. ⌜ now (holds .exit) ≡ newHolds (planOf (now (image .entry))) (now (holds .entry)) deed ⌝ }
 {
-    match answer {
-        Answer::Granted(route) => {
+    match deed {
+        Deed::Granted(route) => {
             take(normal_of(image, route), route, holds);
             take(reverse_of(image, route), route, holds);
         }
-        Answer::Cancelled(route) => drop_all(route, holds),
-        Answer::Moved { to, .. } => arrive(image, to, holds),
-        Answer::Refused(_) | Answer::Accident(_) | Answer::Entered { .. } | Answer::Left { .. } =>
-            {}
+        Deed::Cancelled(route) => drop_all(route, holds),
+        Deed::Moved { to, .. } => arrive(image, to, holds),
+        Deed::Entered { .. } | Deed::Left { .. } => {}
     }
 }
 
 // A grant turns the route's signal green for it, a cancel red; a signal on the track left goes red.
-fn act_signals(image: &[u8; IMAGE], signals: &mut [u8], answer: Answer)
-    requires { ⌜ Ready (planOf (now image)) answer × (length (now signals) ≡ mostSignals) ⌝ }
-    ensures { λ _. ⌜ now (signals .exit) ≡ newSignals (planOf (now (image .entry))) (now (signals .entry)) answer ⌝ }
+fn act_signals(image: &[u8; IMAGE], signals: &mut [u8], deed: Deed)
+    requires { ⌜ Ready (planOf (now image)) deed × (length (now signals) ≡ mostSignals) ⌝ }
+    ensures { λ _. ⌜ now (signals .exit) ≡ newSignals (planOf (now (image .entry))) (now (signals .entry)) deed ⌝ }
 {
-    match answer {
-        Answer::Granted(route) => {
+    match deed {
+        Deed::Granted(route) => {
             let start = start_of(image, route);
             signals[start] = (route + 1) as u8;
         }
-        Answer::Cancelled(route) => {
+        Deed::Cancelled(route) => {
             let start = start_of(image, route);
             signals[start] = RED;
         }
-        Answer::Moved { from, .. } => redden(image, from, signals),
-        Answer::Left { from, .. } => redden(image, from, signals),
-        Answer::Refused(_) | Answer::Accident(_) | Answer::Entered { .. } => {}
+        Deed::Moved { from, .. } => redden(image, from, signals),
+        Deed::Left { from, .. } => redden(image, from, signals),
+        Deed::Entered { .. } => {}
     }
 }
 

@@ -5,11 +5,11 @@ ghost use lib.ListN.{length};
 use libc::STDIN_FILENO;
 use libc::STDOUT_FILENO;
 use plan::limits::IMAGE;
-use plan::limits::SIGNALS;
 use plan::limits::TRACKS;
 use signalbox::signalbox_open;
 use signalbox::signalbox_print;
 use signalbox::signalbox_read;
+use state::cells::CELLS;
 
 // One byte more than the longest plan: a longer file gets the answer of these.
 const PLAN: usize = IMAGE + 1;
@@ -47,24 +47,14 @@ fn main() {
 
 // Events until the input ends.
 fn play(plan: &[u8]) {
-    let mut trains = [0u8; TRACKS];
-    let mut lies = [0u8; TRACKS];
+    let mut cells = [0u8; CELLS];
     let mut holds = [0u64; TRACKS];
-    let mut signals = [0u8; SIGNALS];
     let mut turns = u64::MAX;
     while turns > 0 {
         let mut events = [0u8; EVENTS];
         let got = io::read_full(STDIN_FILENO, &mut events[..]);
         let mut lines = [0u8; LINES];
-        let count = signalbox_print(
-            plan,
-            &mut trains,
-            &mut lies,
-            &mut holds,
-            &mut signals,
-            &events[..got],
-            &mut lines[..],
-        );
+        let count = signalbox_print(plan, &mut cells, &mut holds, &events[..got], &mut lines[..]);
         io::write_all(STDOUT_FILENO, &lines[..count]);
         if got < EVENTS {
             return;

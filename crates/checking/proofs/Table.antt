@@ -1,78 +1,90 @@
--- The table of rules, as code goes through it by number.
+-- The list of rules, as code goes through it by number.
 use mathlib.Core.Path.{_≡_, refl, sym, ap, _∙_}
-use mathlib.Core.Bool.{Bool, true, false, not}
-use mathlib.Core.Logic.{_⊎_, inl, inr}
-use mathlib.Core.List.{List, [], _∷_}
+use mathlib.Core.Bool.{false}
+use mathlib.Core.Logic.{inl, inr}
+use mathlib.Core.List.{List, [], _∷_, map}
 use Prim.Native.Nat.{ℕ, zero, suc, _+_, _-_, _<_, _≤_}
 use native.Mathlib.Omega.{arith}
 use native.Mathlib.Numerals.{add-one}
-use lib.ListN.{length, getD, drop, drop-of-length-le, List·getD-eq-default}
-use lib.Seq.{drop-cons}
+use lib.ListN.{length, getD, take, drop, replicate, getD-replicate, drop-of-length-le, List·getD-eq-default, List·getD-map}
+use lib.Seq.{drop-cons, getD-take, getD-drop}
+use lib.Dec.{eqb}
+use borrow.Author.Tests.{eqb-true}
 use Rattle.laws.specs.declared.Found.{Found}
 use Rattle.laws.specs.declared.Found.the-variants.{At, Nothing}
-use Rattle.laws.specs.Search.{lowest, lowestFrom, unless, unless-at, unless-nothing}
+use Rattle.laws.specs.Tests.{Is, clash, below?, or-e}
+use Rattle.laws.specs.Lists.{anyOf, has}
+use Rattle.laws.specs.Search.{allBelow, allBelow-at, unless-at, unless-nothing}
 use Rattle.plan.specs.Records.{Plan}
-use Rattle.rules.specs.declared.Verdict.{Verdict}
-use Rattle.rules.specs.declared.Verdict.the-variants.{Accepted}
-use Rattle.rules.specs.Rules.{Rule, noRule, rules, ruleOf, lowestBroken, firstBroken, verdict}
+use Rattle.rules.specs.declared.Verdict.the-variants.{Accepted, Broken}
+use Rattle.rules.specs.Verdict.{Rule, noRule, rules, ruleOf, lowestBroken, firstBroken, verdict}
 
-pub rules-count : (p : Plan) → length (rules p) ≡ 13
-unfolding rules
-rules-count p = refl
+-- k is none of the keys of a match, the last one first
+abbrev NoneOf : List ℕ → ℕ → Type 0
+NoneOf [] k = Unit
+NoneOf (key ∷ keys) k = NoneOf keys k × (k ≡ key → ⊥)
 
--- what the rule of a number says, where that number is known
-pub by-number {ℓ} : {A : Type ℓ} (p : Plan) (f : Rule → A) {k : ℕ} (j : ℕ) → k ≡ j → f (ruleOf p j) ≡ f (ruleOf p k)
-by-number p f j e = ap (λ (i : ℕ). f (ruleOf p i)) (sym e)
+none-of : (keys : List ℕ) (k : ℕ) → NoneOf keys k → Is (has k keys) → ⊥
+unfolding has anyOf
+none-of [] k n e = clash {b = false} e refl
+none-of (key ∷ keys) k (n, d) e = elim (or-e (eqb key k) (has k keys) e) [ inl w ↦ d (sym (eqb-true key k w)) | inr w ↦ none-of keys k n w ]
 
--- any other number has no rule
-pub no-rule : (p : Plan) (k : ℕ) → (1 ≤ k → k ≤ 12 → ⊥) → noRule ≡ ruleOf p k
-unfolding ruleOf rules
-no-rule p zero h = refl
-no-rule p (suc k) h =
-    let n : (suc k ≤ 12 → ⊥) = λ g. h (omega arith) g in
-    let w : 13 ≤ suc k = omega arith in
-    sym (List·getD-eq-default (rules p) noRule {n = suc k} w)
+module _ (p : Plan) where
+  -- what the rule of a number says, where that number is known
+  pub by-number {ℓ} : {A : Type ℓ} (f : Rule → A) {k : ℕ} (j : ℕ) → k ≡ j → f (ruleOf p j) ≡ f (ruleOf p k)
+  by-number f j e = ap (λ (i : ℕ). f (ruleOf p i)) (sym e)
 
-pub past : {k : ℕ} (j : ℕ) → j ≤ k → (k ≡ j → ⊥) → j < k
-past j h n = omega arith
+  -- c rules from the number a on go over n rows each
+  pub same-rows : (a c : ℕ) {n k : ℕ} → replicate c n ≡ map (λ rule. rule .rows) (take c (drop a (noRule ∷ rules p))) → a ≤ k → k < a + c → n ≡ ruleOf p k .rows
+  unfolding ruleOf
+  same-rows a c {n} {k} e h g = let z : a + (k - a) ≡ k = omega arith in at (k - a) (omega arith) ∙ ap (λ (i : ℕ). getD l i noRule .rows) z
+    where
+      l : List Rule
+      l = noRule ∷ rules p
 
--- rules 1 to 3 go over tracks, rules 6 to 11 over routes
-pub track-rows : (p : Plan) (k : ℕ) → 1 ≤ k → k ≤ 3 → length (p .tracks) ≡ ruleOf p k .rows
-unfolding ruleOf rules
-track-rows p zero h g = absurd (omega arith)
-track-rows p (suc zero) h g = refl
-track-rows p (suc (suc zero)) h g = refl
-track-rows p (suc (suc (suc zero))) h g = refl
-track-rows p (suc (suc (suc (suc k)))) h g = absurd (omega arith)
+      at : (i : ℕ) → i < c → n ≡ getD l (a + i) noRule .rows
+      at i h = sym (getD-replicate c i n 0 h) ∙ ap (λ (m : List ℕ). getD m i 0) e ∙ List·getD-map (λ rule. rule .rows) (take c (drop a l)) i noRule
+          ∙ ap (λ (rule : Rule). rule .rows) (getD-take c (drop a l) i noRule h ∙ getD-drop a l i noRule)
 
-pub route-rows : (p : Plan) (k : ℕ) → 6 ≤ k → k ≤ 11 → length (p .routes) ≡ ruleOf p k .rows
-unfolding ruleOf rules
-route-rows p k h g = let e : k ≡ suc (suc (suc (suc (suc (suc (k - 6)))))) = omega arith in rw e (go (k - 6) (omega arith))
-  where
-    go : (j : ℕ) → j ≤ 5 → length (p .routes) ≡ getD (rules p) (suc (suc (suc (suc (suc (suc j)))))) noRule .rows
-    go zero h = refl
-    go (suc zero) h = refl
-    go (suc (suc zero)) h = refl
-    go (suc (suc (suc zero))) h = refl
-    go (suc (suc (suc (suc zero)))) h = refl
-    go (suc (suc (suc (suc (suc zero))))) h = refl
-    go (suc (suc (suc (suc (suc (suc j)))))) h = absurd (omega arith)
+  -- a number past the list has no rule; nor has one that is none of the keys, where these are all that there are
+  pub past-rules : {k : ℕ} → length (rules p) < k → noRule ≡ ruleOf p k
+  unfolding ruleOf
+  past-rules h = sym (List·getD-eq-default (noRule ∷ rules p) noRule h)
 
--- A search through the table, from its place k on.
+  pub no-rule : (keys : List ℕ) (k : ℕ) → Is (allBelow (length (rules p)) (λ j. has (suc j) keys)) → NoneOf keys k → noRule ≡ ruleOf p k
+  unfolding ruleOf
+  no-rule keys zero a n = refl
+  no-rule keys (suc k) a n = elim (below? k (length (rules p))) [
+    | inl h ↦ absurd (none-of keys (suc k) n (allBelow-at (length (rules p)) (λ j. has (suc j) keys) a k h))
+    | inr h ↦ past-rules {k = suc k} (omega arith)
+  ]
 
-pub check-start : (p : Plan) → firstBroken (drop 1 (rules p)) ≡ verdict p
-unfolding verdict rules firstBroken lowestBroken lowest lowestFrom unless
-check-start p = refl
+  -- A search through the list, from number k on, by code whose last rule is n.
 
-module _ (l : List Rule) (k : ℕ) where
-  pub check-passed : {o : Found} → k < length l → o ≡ lowestBroken (getD l k noRule) → o ≡ Nothing → firstBroken (drop k l) ≡ firstBroken (drop (k + 1) l)
+  abbrev pub From : ℕ → Type 0
+  From k = firstBroken k (drop k (noRule ∷ rules p)) ≡ verdict p
+
+  pub check-start : From 1
+  unfolding verdict
+  check-start = refl
+
+  module _ (k : ℕ) {n : ℕ} {o : Found} (h : k ≤ n) (last : length (rules p) ≡ n) (e : o ≡ lowestBroken (ruleOf p k)) (f : From k) where
+    pub check-passed : o ≡ Nothing → From (k + 1)
+    unfolding ruleOf firstBroken
+    check-passed t =
+        let l = noRule ∷ rules p in
+        sym (rw (add-one k, drop-cons l k noRule (omega arith)) (unless-nothing (Broken k) (firstBroken (suc k) (drop (suc k) l)) (sym e ∙ t))) ∙ f
+
+    pub check-broken : {i : ℕ} → o ≡ At i → Broken k i ≡ verdict p
+    unfolding ruleOf firstBroken
+    check-broken t =
+        let l = noRule ∷ rules p in
+        sym (rw (drop-cons l k noRule (omega arith)) (unless-at (Broken k) (firstBroken (suc k) (drop (suc k) l)) (sym e ∙ t))) ∙ f
+
+  pub check-done : (k : ℕ) {n : ℕ} → n < k → length (rules p) ≡ n → From k → Accepted ≡ verdict p
   unfolding firstBroken
-  check-passed h e t = rw (add-one k, drop-cons l k noRule h) (unless-nothing (getD l k noRule .broken) (firstBroken (drop (suc k) l)) (sym e ∙ t))
+  check-done k h last f = sym (rw (drop-of-length-le (noRule ∷ rules p) (rw (← last) at h))) ∙ f
 
-  pub check-broken : {o : Found} {i : ℕ} → k < length l → o ≡ lowestBroken (getD l k noRule) → o ≡ At i → firstBroken (drop k l) ≡ getD l k noRule .broken i
-  unfolding firstBroken
-  check-broken h e t = rw (drop-cons l k noRule h) (unless-at (getD l k noRule .broken) (firstBroken (drop (suc k) l)) (sym e ∙ t))
-
-  pub check-done : length l ≤ k → firstBroken (drop k l) ≡ Accepted
-  unfolding firstBroken
-  check-done h = rw (drop-of-length-le l h)
+  -- one rule less is left
+  pub one-less : (k : ℕ) {n : ℕ} → k ≤ n → length (rules p) ≡ n → suc (length (rules p)) - (k + 1) < suc (length (rules p)) - k
+  one-less k h last = omega arith

@@ -7,9 +7,8 @@ use plan::limits::IMAGE;
 use rules::Verdict;
 ghost use mathlib.Core.Path.{_≡_};
 ghost use mathlib.Core.Logic.{_≢_};
-ghost use Rattle.plan.specs.Records.{Plan};
 ghost use Rattle.plan.specs.Image.{planOf};
-ghost use Rattle.rules.specs.Rules.{ruleOf, lowestBroken, verdict};
+ghost use Rattle.rules.specs.Verdict.{ruleOf, lowestBroken, verdict};
 
 // The rule of the named form: its rows come from pairs of tracks.
 const PAIRS: usize = 3;
@@ -24,7 +23,7 @@ pub fn check(image: &[u8; IMAGE]) -> Verdict
     while rule <= LAST_RULE {
         let found = first_broken(image, rule);
         if let Found::At(row) = found {
-            return broken(rule, row);
+            return Verdict::Broken { rule, row };
         }
         rule += 1;
     }
@@ -87,26 +86,5 @@ fn holds(image: &[u8; IMAGE], rule: usize, row: usize) -> bool
         11 => routes::releases_fit(image, row),
         12 => entries::entry_cleared(image, row),
         _ => true,
-    }
-}
-
-// The verdict where a row breaks a rule.
-fn broken(rule: usize, row: usize) -> Verdict
-    ensures { λ r. ⌜ ((p : Plan) → r ≡ ruleOf p rule .broken row) ⌝ }
-{
-    match rule {
-        1 => Verdict::WaysMeet(row),
-        2 => Verdict::LegAstray(row),
-        3 => Verdict::LedTwice(row),
-        4 => Verdict::HomeNotPlain(row),
-        5 => Verdict::EntryMisplaced(row),
-        6 => Verdict::PathBroken(row),
-        7 => Verdict::PathMisended(row),
-        8 => Verdict::PathNotClear(row),
-        9 => Verdict::PointMislisted(row),
-        10 => Verdict::PointNotClear(row),
-        11 => Verdict::ReleaseAstray(row),
-        12 => Verdict::EntryNotClear(row),
-        _ => Verdict::Accepted,
     }
 }

@@ -15,8 +15,9 @@ use Rattle.events.specs.declared.Event.{Event}
 use Rattle.events.specs.declared.Event.the-variants.{Request, Cancel, Enter, Move, Unknown}
 use Rattle.events.specs.declared.Answer.{Answer}
 use Rattle.events.specs.Decide.{hasTrain, isRed, isGreen, stands, frontOf, inPlan, wayOut, runsThrough, answerRequest, answerCancel, answerEnter, moveTo, moveFrom, answerMove, decided}
-use Rattle.events.specs.After.{Acts}
-use Rattle.decide.proofs.Within.{entry-within, next-within}
+use Rattle.events.specs.After.{Names, Acts}
+use Rattle.events.proofs.Facts.{entry-below}
+use Rattle.decide.proofs.Within.{next-within}
 
 -- A test is passed or applies.
 either : (Q : Answer → Type 0) {a d : Answer} (b : Bool) → (b ≡ true → Q a) → (b ≡ false → Q d) → Q (cond b a d)
@@ -25,7 +26,7 @@ either Q false h k = k refl
 
 module _ {p : Plan} (w : Readable p) (σ : State) where
   request-acts : (r : ℕ) → r < length (p .routes) → Acts p (answerRequest p σ r)
-  unfolding answerRequest Acts
+  unfolding answerRequest Acts Names
   request-acts r h =
       either (Acts p) (isRed (σ .signals) (routeOf p r .start))
       (λ _. unless-ind (Acts p) _ _ _ (λ u _. tt)
@@ -35,7 +36,7 @@ module _ {p : Plan} (w : Readable p) (σ : State) where
       (λ _. tt)
 
   cancel-acts : (r : ℕ) → r < length (p .routes) → Acts p (answerCancel p (σ .trains) (σ .signals) r)
-  unfolding answerCancel Acts
+  unfolding answerCancel Acts Names
   cancel-acts r h =
       either (Acts p) (isGreen (σ .signals) (routeOf p r .start) r)
       (λ _. either (Acts p) (hasTrain (σ .trains) (homeOf p (routeOf p r .start))) (λ _. tt)
@@ -43,33 +44,33 @@ module _ {p : Plan} (w : Readable p) (σ : State) where
       (λ _. tt)
 
   enter-acts : (e train : ℕ) → e < length (p .entries) → Acts p (answerEnter p (σ .trains) e train)
-  unfolding answerEnter Acts
+  unfolding answerEnter Acts Names
   enter-acts e train h =
       either (Acts p) (inPlan p (σ .trains) train) (λ _. tt)
       (λ _. unless-ind (Acts p) _ _ _ (λ u _. tt)
       (λ _. either (Acts p) (hasTrain (σ .trains) (entryOf p e .track)) (λ _. tt)
-      (λ _. entry-within w h)))
+      (λ _. entry-below p w e h)))
 
   to-acts : (train u v : ℕ) → u < length (p .tracks) → v < length (p .tracks) → Acts p (moveTo p (σ .trains) (σ .lies) train u v)
-  unfolding moveTo Acts
+  unfolding moveTo Acts Names
   to-acts train u v h k =
       either (Acts p) (hasTrain (σ .trains) v) (λ _. tt)
       (λ _. either (Acts p) (runsThrough p (σ .lies) u v) (λ _. tt)
       (λ _. (h, k)))
 
   from-acts : (train u : ℕ) → u < length (p .tracks) → Acts p (moveFrom p (σ .trains) (σ .lies) (σ .signals) train u)
-  unfolding moveFrom Acts
+  unfolding moveFrom Acts Names
   from-acts train u h =
       unless-ind (Acts p) _ _ _ (λ s _. tt)
       (λ _. either (Acts p) (isExit p u) (λ _. h)
       (λ x. to-acts train u (wayOut p (σ .lies) u) h (next-within w h x (σ .lies))))
 
   move-acts : (train : ℕ) → Acts p (answerMove p (σ .trains) (σ .lies) (σ .signals) train)
-  unfolding answerMove frontOf Acts
+  unfolding answerMove frontOf Acts Names
   move-acts train = unless-ind (Acts p) _ _ _ (λ u e. from-acts train u (lowest-at (length (p .tracks)) (stands (σ .trains) train) e .below)) (λ _. tt)
 
   pub decided-acts : (event : Event) → Acts p (decided p σ event)
-  unfolding decided Acts
+  unfolding decided Acts Names
   decided-acts (Request r) = either (Acts p) (ltb r (length (p .routes))) (λ e. request-acts r (ltb-true r (length (p .routes)) e)) (λ _. tt)
   decided-acts (Cancel r) = either (Acts p) (ltb r (length (p .routes))) (λ e. cancel-acts r (ltb-true r (length (p .routes)) e)) (λ _. tt)
   decided-acts (Enter e train) =

@@ -16,8 +16,9 @@ use Rattle.state.specs.State.{stateOf}
 use Rattle.events.specs.declared.Event.the-variants.{Request, Cancel, Enter, Move}
 use Rattle.events.specs.declared.Refusal.the-variants.{BadEvent, NotRed, Occupied, Held, NotGreen, HomeOccupied, TrainIn, TrainOut, Red}
 use Rattle.events.specs.declared.Harm.the-variants.{Collision, RunThrough, Derailment}
+use Rattle.events.specs.declared.Deed.the-variants.{Granted, Cancelled, Entered, Moved, Left}
 use Rattle.events.specs.declared.Answer.{Answer}
-use Rattle.events.specs.declared.Answer.the-variants.{Refused, Accident, Granted, Cancelled, Entered, Moved, Left}
+use Rattle.events.specs.declared.Answer.the-variants.{Refused, Accident, Done}
 use Rattle.events.specs.Decide.{hasTrain, isRed, isGreen, stands, busyTrack, heldPoint, derailedPoint, frontOf, inPlan, redAt, wayOut, runsThrough, answerRequest, answerCancel, answerEnter, moveTo, moveFrom, answerMove, decided}
 
 -- A request: 11, 12, 13, 14, 42.
@@ -46,7 +47,7 @@ module _ (p : Plan) (trains lies holds signals : List ℕ) (r : ℕ) {routes : �
           unfolding decided answerRequest isRed unless
           request-42 e = rw (← k, lt-ltb r routes h, ← s, eq-eqb (getD signals start 0) 0 z, ← m, ← c, ← b, free, ← n′, ← r′, ← l, loose, ← d, e)
 
-          pub request-granted : derailed ≡ Nothing → Granted r ≡ decided p (stateOf trains lies holds signals) (Request r)
+          pub request-granted : derailed ≡ Nothing → Done (Granted r) ≡ decided p (stateOf trains lies holds signals) (Request r)
           unfolding decided answerRequest isRed unless
           request-granted e = rw (← k, lt-ltb r routes h, ← s, eq-eqb (getD signals start 0) 0 z, ← m, ← c, ← b, free, ← n′, ← r′, ← l, loose, ← d, e)
 
@@ -66,7 +67,7 @@ module _ (p : Plan) (trains lies holds signals : List ℕ) (r : ℕ) {routes : �
       unfolding decided answerCancel isGreen
       cancel-16 e = rw (← k, lt-ltb r routes h, ← s, ← w, eq-eqb shown (suc r) (rw add-one at z), ← o, ← t, e)
 
-      pub cancel-cancelled : taken ≡ false → Cancelled r ≡ decided p (stateOf trains lies holds signals) (Cancel r)
+      pub cancel-cancelled : taken ≡ false → Done (Cancelled r) ≡ decided p (stateOf trains lies holds signals) (Cancel r)
       unfolding decided answerCancel isGreen
       cancel-cancelled e = rw (← k, lt-ltb r routes h, ← s, ← w, eq-eqb shown (suc r) (rw add-one at z), ← o, ← t, e)
 
@@ -96,7 +97,7 @@ module _ (p : Plan) (trains lies holds signals : List ℕ) (e train : ℕ) {entr
           unfolding decided answerEnter inPlan frontOf unless
           enter-40 w = rw (← k, lt-ltb e entries h, ne-eqb train 0 z, ← m, ← f, outside, ← c, ← b, free, ← t, ← v, w)
 
-          pub enter-entered : taken ≡ false → Entered train track ≡ decided p (stateOf trains lies holds signals) (Enter e train)
+          pub enter-entered : taken ≡ false → Done (Entered train track) ≡ decided p (stateOf trains lies holds signals) (Enter e train)
           unfolding decided answerEnter inPlan frontOf unless
           enter-entered w = rw (← k, lt-ltb e entries h, ne-eqb train 0 z, ← m, ← f, outside, ← c, ← b, free, ← t, ← v, w)
 
@@ -111,7 +112,7 @@ module _ (p : Plan) (trains lies : List ℕ) (train u v : ℕ) {taken : Bool} (t
     unfolding moveTo
     move-41 e = rw (← t, free, ← w, e)
 
-    pub move-moved : wrong ≡ false → Moved train u v ≡ moveTo p trains lies train u v
+    pub move-moved : wrong ≡ false → Done (Moved train u v) ≡ moveTo p trains lies train u v
     unfolding moveTo
     move-moved e = rw (← t, free, ← w, e)
 
@@ -132,7 +133,7 @@ module _ (p : Plan) (trains lies holds signals : List ℕ) (train : ℕ) where
       move-19 e = rw (ne-eqb train 0 z, ← m, ← f, a, ← r, e)
 
       module _ (green : red ≡ Nothing) {exit : Bool} (x : exit ≡ isExit p u) where
-        pub move-left : exit ≡ true → Left train u ≡ decided p (stateOf trains lies holds signals) (Move train)
+        pub move-left : exit ≡ true → Done (Left train u) ≡ decided p (stateOf trains lies holds signals) (Move train)
         unfolding decided answerMove frontOf moveFrom unless
         move-left e = rw (ne-eqb train 0 z, ← m, ← f, a, ← r, green, ← x, e)
 

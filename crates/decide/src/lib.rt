@@ -2,6 +2,7 @@
 mod tests;
 
 use events::Answer;
+use events::Deed;
 use events::Event;
 use events::Harm;
 use events::Refusal;
@@ -19,8 +20,9 @@ use plan::image::start_of;
 use plan::image::tracks;
 use plan::image::wide;
 use plan::limits::IMAGE;
-use plan::limits::SIGNALS;
 use plan::limits::TRACKS;
+use state::cells::CELLS;
+use state::cells::shown_at;
 use tests::busy_track;
 use tests::derailed_point;
 use tests::front_of;
@@ -35,31 +37,29 @@ ghost use Prim.Native.Nat.{ℕ, _<_};
 ghost use Rattle.plan.specs.Limits.{mostTracks};
 ghost use Rattle.plan.specs.File.{Readable};
 ghost use Rattle.plan.specs.Image.{planOf};
-ghost use Rattle.state.specs.State.{stateOf};
+ghost use Rattle.state.specs.Cells.{trainsIn, liesIn, stateIn};
 ghost use Rattle.events.specs.declared.Event.the-variants.{Request, Cancel, Enter, Move};
 ghost use Rattle.events.specs.Decide.{moveTo, decided};
 
 // A request: 11, 12, 13, 14, 42.
 fn decide_request(
     image: &[u8; IMAGE],
-    trains: &[u8; TRACKS],
-    lies: &[u8; TRACKS],
+    cells: &[u8; CELLS],
     holds: &[u64; TRACKS],
-    signals: &[u8; SIGNALS],
     route: usize,
 ) -> Answer
     requires { ⌜ Readable (planOf (now image)) ⌝ }
-    ensures { λ r. ⌜ r ≡ decided (planOf (now (image .entry))) (stateOf (now (trains .entry)) (now (lies .entry)) (now (holds .entry)) (now (signals .entry))) (Request route) ⌝ }
+    ensures { λ r. ⌜ r ≡ decided (planOf (now (image .entry))) (stateIn (now (cells .entry)) (now (holds .entry))) (Request route) ⌝ }
 {
     if routes(image) <= route {
         return Answer::Refused(Refusal::BadEvent);
     }
     let start = start_of(image, route);
-    if signals[start] != 0 {
+    if shown_at(cells, start) != 0 {
         return Answer::Refused(Refusal::NotRed);
     }
     let count = tracks(image);
-    let busy = busy_track(count, clear_of(image, route), trains);
+    let busy = busy_track(count, clear_of(image, route), cells);
     if let Found::At(track) = busy {
         return Answer::Refused(Refusal::Occupied(track));
     }
@@ -69,41 +69,36 @@ fn decide_request(
     if let Found::At(point) = held {
         return Answer::Refused(Refusal::Held(point));
     }
-    let derailed = derailed_point(count, normal, reverse, trains, lies);
+    let derailed = derailed_point(count, normal, reverse, cells);
     if let Found::At(point) = derailed {
         return Answer::Accident(Harm::Derailment(point));
     }
-    Answer::Granted(route)
+    Answer::Done(Deed::Granted(route))
 }
 
-// A cancel, whatever the lies and holds: 11, 15, 16.
-fn decide_cancel(
-    image: &[u8; IMAGE],
-    trains: &[u8; TRACKS],
-    signals: &[u8; SIGNALS],
-    route: usize,
-) -> Answer
+// A cancel, whatever the holds: 11, 15, 16.
+fn decide_cancel(image: &[u8; IMAGE], cells: &[u8; CELLS], route: usize) -> Answer
     requires { ⌜ Readable (planOf (now image)) ⌝ }
-    ensures { λ r. ⌜ ((lies holds : List ℕ) → r ≡ decided (planOf (now (image .entry))) (stateOf (now (trains .entry)) lies holds (now (signals .entry))) (Cancel route)) ⌝ }
+    ensures { λ r. ⌜ ((holds : List ℕ) → r ≡ decided (planOf (now (image .entry))) (stateIn (now (cells .entry)) holds) (Cancel route)) ⌝ }
 {
     if routes(image) <= route {
         return Answer::Refused(Refusal::BadEvent);
     }
     let start = start_of(image, route);
-    if wide(signals[start]) != route + 1 {
+    if wide(shown_at(cells, start)) != route + 1 {
         return Answer::Refused(Refusal::NotGreen);
     }
     let home = home_of(image, start);
-    if has_train(trains, home) {
+    if has_train(cells, home) {
         return Answer::Refused(Refusal::HomeOccupied(home));
     }
-    Answer::Cancelled(route)
+    Answer::Done(Deed::Cancelled(route))
 }
 
-// An entry, whatever the lies, holds and signals: 11, 17, 13, 40.
-fn decide_enter(image: &[u8; IMAGE], trains: &[u8; TRACKS], entry: usize, train: u8) -> Answer
+// An entry, whatever the holds: 11, 17, 13, 40.
+fn decide_enter(image: &[u8; IMAGE], cells: &[u8; CELLS], entry: usize, train: u8) -> Answer
     requires { ⌜ Readable (planOf (now image)) ⌝ }
-    ensures { λ r. ⌜ ((lies holds signals : List ℕ) → r ≡ decided (planOf (now (image .entry))) (stateOf (now (trains .entry)) lies holds signals) (Enter entry train)) ⌝ }
+    ensures { λ r. ⌜ ((holds : List ℕ) → r ≡ decided (planOf (now (image .entry))) (stateIn (now (cells .entry)) holds) (Enter entry train)) ⌝ }
 {
     if entries(image) <= entry {
         return Answer::Refused(Refusal::BadEvent);
@@ -112,88 +107,73 @@ fn decide_enter(image: &[u8; IMAGE], trains: &[u8; TRACKS], entry: usize, train:
         return Answer::Refused(Refusal::BadEvent);
     }
     let count = tracks(image);
-    let front = front_of(count, trains, train);
+    let front = front_of(count, cells, train);
     if let Found::At(_) = front {
         return Answer::Refused(Refusal::TrainIn);
     }
-    let busy = busy_track(count, entry_clear(image, entry), trains);
+    let busy = busy_track(count, entry_clear(image, entry), cells);
     if let Found::At(other) = busy {
         return Answer::Refused(Refusal::Occupied(other));
     }
     let track = entry_track(image, entry);
-    if has_train(trains, track) {
+    if has_train(cells, track) {
         return Answer::Accident(Harm::Collision(track));
     }
-    Answer::Entered { train, track }
+    Answer::Done(Deed::Entered { train, track })
 }
 
 // A move from a track to another: 40, 41.
-fn move_to(
-    image: &[u8; IMAGE],
-    trains: &[u8; TRACKS],
-    lies: &[u8; TRACKS],
-    train: u8,
-    from: usize,
-    to: usize,
-) -> Answer
+fn move_to(image: &[u8; IMAGE], cells: &[u8; CELLS], train: u8, from: usize, to: usize) -> Answer
     requires { ⌜ to < mostTracks ⌝ }
-    ensures { λ r. ⌜ r ≡ moveTo (planOf (now (image .entry))) (now (trains .entry)) (now (lies .entry)) train from to ⌝ }
+    ensures { λ r. ⌜ r ≡ moveTo (planOf (now (image .entry))) (trainsIn (now (cells .entry))) (liesIn (now (cells .entry))) train from to ⌝ }
 {
-    if has_train(trains, to) {
+    if has_train(cells, to) {
         return Answer::Accident(Harm::Collision(to));
     }
-    if runs_through(image, lies, from, to) {
+    if runs_through(image, cells, from, to) {
         return Answer::Accident(Harm::RunThrough(to));
     }
-    Answer::Moved { train, from, to }
+    Answer::Done(Deed::Moved { train, from, to })
 }
 
 // A move, whatever the holds: 11, 18, 19, and then 40 and 41. From an exit the train leaves.
-fn decide_move(
-    image: &[u8; IMAGE],
-    trains: &[u8; TRACKS],
-    lies: &[u8; TRACKS],
-    signals: &[u8; SIGNALS],
-    train: u8,
-) -> Answer
+fn decide_move(image: &[u8; IMAGE], cells: &[u8; CELLS], train: u8) -> Answer
     requires { ⌜ Readable (planOf (now image)) ⌝ }
-    ensures { λ r. ⌜ ((holds : List ℕ) → r ≡ decided (planOf (now (image .entry))) (stateOf (now (trains .entry)) (now (lies .entry)) holds (now (signals .entry))) (Move train)) ⌝ }
+    ensures { λ r. ⌜ ((holds : List ℕ) → r ≡ decided (planOf (now (image .entry))) (stateIn (now (cells .entry)) holds) (Move train)) ⌝ }
 {
     if train == 0 {
         return Answer::Refused(Refusal::BadEvent);
     }
-    let front = front_of(tracks(image), trains, train);
+    let front = front_of(tracks(image), cells, train);
     let Found::At(from) = front else {
         return Answer::Refused(Refusal::TrainOut);
     };
-    let red = red_at(image, signals, from);
+    let red = red_at(image, cells, from);
     if let Found::At(signal) = red {
         return Answer::Refused(Refusal::Red(signal));
     }
     if is_exit(image, from) {
-        return Answer::Left { train, from };
+        return Answer::Done(Deed::Left { train, from });
     }
-    let to = next_track(image, lies, from);
-    move_to(image, trains, lies, train, from, to)
+    let to = next_track(image, cells, from);
+    move_to(image, cells, train, from, to)
 }
 
 // The answer to an event of any kind. Test 10 stands apart.
 pub fn decide(
     image: &[u8; IMAGE],
-    trains: &[u8; TRACKS],
-    lies: &[u8; TRACKS],
+    cells: &[u8; CELLS],
     holds: &[u64; TRACKS],
-    signals: &[u8; SIGNALS],
     event: Event,
 ) -> Answer
     requires { ⌜ Readable (planOf (now image)) ⌝ }
-    ensures { λ r. ⌜ r ≡ decided (planOf (now (image .entry))) (stateOf (now (trains .entry)) (now (lies .entry)) (now (holds .entry)) (now (signals .entry))) event ⌝ }
+    ensures { λ r. ⌜ r ≡ decided (planOf (now (image .entry))) (stateIn (now (cells .entry)) (now (holds .entry))) event ⌝ }
 {
     match event {
-        Event::Request(route) => decide_request(image, trains, lies, holds, signals, route),
-        Event::Cancel(route) => decide_cancel(image, trains, signals, route),
-        Event::Enter { entry, train } => decide_enter(image, trains, entry, train),
-        Event::Move(train) => decide_move(image, trains, lies, signals, train),
+        Event::Request(route) => decide_request(image, cells, holds, route),
+        Event::Cancel(route) => decide_cancel(image, cells, route),
+        Event::Enter { entry, train } => decide_enter(image, cells, entry, train),
+        Event::Move(train) => decide_move(image, cells, train),
         Event::Unknown => Answer::Refused(Refusal::BadEvent),
     }
 }

@@ -1,24 +1,28 @@
 -- Why there is no accident: what a request turns or an entry takes was found clear (42, and 40 at an entry); a train that may go on has its route
 -- free ahead (40), and the points there lie for it (41).
 use mathlib.Core.Path.{_≡_, sym, ap, _∙_}
-use mathlib.Core.Logic.{_≢_, inl, inr}
+use mathlib.Core.Logic.{inl, inr}
 use Prim.Native.Nat.{ℕ, suc, _<_}
 use native.Mathlib.Omega.{arith}
-use Rattle.laws.specs.Tests.{Is, same?}
+use Rattle.laws.specs.Tests.{same?}
 use Rattle.plan.specs.Records.{Plan, homeOf}
 use Rattle.plan.specs.File.{Readable}
-use Rattle.plan.specs.Layout.{isExit, leg}
+use Rattle.plan.specs.Layout.{leg}
 use Rattle.rules.specs.Rules.{pathLength, trackAt}
-use Rattle.rules.specs.Sentences.{Exit, Home, Sound}
+use Rattle.rules.specs.Sentences.{Exit, Home}
+use Rattle.rules.specs.Verdict.{Sound}
+use Rattle.rules.proofs.Numbered.{twelve}
 use Rattle.state.specs.declared.State.{State}
-use Rattle.state.specs.State.{noTrain, trainAt, lieAt, shownAt, HasTrain, WellFormed}
-use Rattle.events.specs.declared.Event.{Event}
+use Rattle.state.specs.State.{trainAt, lieAt, shownAt, HasTrain, WellFormed}
 use Rattle.events.specs.declared.Harm.{Harm}
+use Rattle.events.specs.declared.Harm.the-variants.{Collision, RunThrough, Derailment}
 use Rattle.events.specs.declared.Answer.the-variants.{Accident}
-use Rattle.events.specs.Meaning.{None, Listed, OtherLie, FrontAt, RedAt, Next, RunsThrough, Given}
+use Rattle.laws.specs.Answers.{None}
+use Rattle.events.specs.Meaning.{Listed, OtherLie, RedAt, RunsThrough}
+use Rattle.events.proofs.Told.{Step, Told}
 use Rattle.demands.proofs.Cases.{home?, same-lie, leg-lie}
 use Rattle.demands.proofs.Facts.{kind-exit, trailing-kind, at-home, path-some, listed-clear}
-use Rattle.demands.proofs.Follow.{not-red}
+use Rattle.events.proofs.Follow.{not-red}
 use Rattle.demands.proofs.Invariant.{Mobile, Place, Way, Invariant, leg-ahead, goes-on}
 
 other-listed : (p : Plan) (σ : State) (r x : ℕ) → OtherLie p σ r x → Listed p r x
@@ -44,14 +48,14 @@ module _ (p : Plan) (reads : Readable p) (sound : Sound p) (σ : State) (inv : I
       not-last : (pl : Place p σ u) → (Home p u → ⊥) → pl .i < pathLength p (pl .r)
       not-last pl h = elim (same? (pl .i) (pathLength p (pl .r))) [
         | inl e ↦ (let at : trackAt p (pl .r) (pathLength p (pl .r)) ≡ u = sym (ap (trackAt p (pl .r)) e) ∙ pl .at in
-            elim ((sound .rule7 (pl .r) (pl .ahead .known)) .last) [ inl x ↦ absurd (h (rw at at x)) | inr x ↦ absurd (off (rw at at x)) ])
+            elim ((twelve sound .rule7 (pl .r) (pl .ahead .known)) .last) [ inl x ↦ absurd (h (rw at at x)) | inr x ↦ absurd (off (rw at at x)) ])
         | inr e ↦ (let z = pl .ahead .within in omega arith)
       ]
 
-  pub way : {train u v : ℕ} → train ≢ noTrain → FrontAt p σ train u → None (RedAt p σ u) → (Is (isExit p u) → ⊥) → Next p σ u v → Way p σ u v
-  way {u = u} {v = v} train at go off next =
-      let (pl, more) = place u (λ z. train (sym at ∙ z)) go (λ x. off (kind-exit p u x)) in
-      record { r = pl .r; i = pl .i; from = pl .at; to = goes-on p reads sound σ inv (pl .r) (pl .i) v (pl .ahead) more (rw (pl .at) next); more = more; ahead = pl .ahead }
+  pub way : {train u v : ℕ} → Step p σ train u v → Way p σ u v
+  way {u = u} {v = v} s =
+      let (pl, more) = place u (λ z. s .front .numbered (sym (s .front .at) ∙ z)) (s .front .notRed) (λ x. s .onward (kind-exit p u x)) in
+      record { r = pl .r; i = pl .i; from = pl .at; to = goes-on p reads sound σ inv (pl .r) (pl .i) v (pl .ahead) more (rw (pl .at) (s .next)); more = more; ahead = pl .ahead }
 
   free-ahead : {u v : ℕ} → Way p σ u v → HasTrain σ v → ⊥
   free-ahead w t = t (sym (ap (trainAt σ) (w .to)) ∙ w .ahead .empty (suc (w .i)) (omega arith) (w .more))
@@ -63,9 +67,8 @@ module _ (p : Plan) (reads : Readable p) (sound : Sound p) (σ : State) (inv : I
       let same : lie ≡ way = same-lie lie way (sym l ∙ sym (ap (lieAt σ) (w .to)) ∙ m) in
       d (ap (leg p v) same ∙ sym (ap (λ y. leg p y way) (w .to)) ∙ e ∙ w .from)
 
-  pub no-accident : {event : Event} (harm : Harm) → Given p σ event (Accident harm) → ⊥
-  no-accident harm (Given.row42 {r = r} {q = x} f known isRed free idle lowest) =
-      let (t, other) = lowest .such in free x (listed-clear p reads sound r known x (other-listed p σ r x other), t)
-  no-accident harm (Given.entry40 {e = e} f known new free t) = free _ (sound .rule12 e (known .0), t)
-  no-accident harm (Given.row40 f known at go off next t) = free-ahead (way known at go off next) t
-  no-accident harm (Given.row41 f known at go off next free through) = lies-for (way known at go off next) through
+  pub no-accident : (harm : Harm) → Told p σ (Accident harm) → ⊥
+  no-accident (Derailment x) (r, known, clear, (t, other)) = clear x (listed-clear p reads sound r known x (other-listed p σ r x other), t)
+  no-accident (Collision v) (inl (train, entry, t)) = entry .clear v (rw (entry .track) at (twelve sound .rule12 (entry .e) (entry .known)), t)
+  no-accident (Collision v) (inr (train, u, step, t)) = free-ahead (way step) t
+  no-accident (RunThrough v) (train, u, step, through) = lies-for (way step) through

@@ -1,43 +1,18 @@
--- Agreement: a request is answered by a chain of tests, and each test comes out alike in two states that agree on what it looks at.
-use mathlib.Core.Path.{_≡_, refl, sym, _∙_}
-use mathlib.Core.Logic.{inl, inr}
+-- Agreement: each row of a request's table comes out alike in two states that agree on what it looks at.
+use mathlib.Core.Path.{sym, _∙_}
+use mathlib.Core.Logic.{inl, inr, _↔_}
 use Prim.Native.Nat.{ℕ}
+use Rattle.laws.specs.Rows.{Within, last-alike, needs-alike, names-alike}
 use Rattle.plan.specs.Records.{Plan, routeOf}
 use Rattle.state.specs.declared.State.{State}
 use Rattle.state.specs.State.{WellFormed}
 use Rattle.events.specs.declared.Event.the-variants.{Request}
-use Rattle.events.specs.declared.Refusal.the-variants.{NotRed, Occupied, Held}
-use Rattle.events.specs.declared.Harm.the-variants.{Derailment}
 use Rattle.events.specs.declared.Answer.{Answer}
-use Rattle.events.specs.declared.Answer.the-variants.{Refused, Accident, Granted}
-use Rattle.events.specs.Meaning.{Busy, HeldListed, Derails, SignalRed, Given, Alike}
+use Rattle.events.specs.Meaning.{Busy, HeldListed, Derails, SignalRed, requestTable, eventTable, tableOf, Given, Alike}
+use Rattle.events.proofs.Given.{one-given}
 use Rattle.demands.specs.Demands.{Box, Demand2, Agreement}
-use Rattle.demands.proofs.Chain.{Passes, Finds, Tested, same-passes, same-finds, passed}
 
 module _ (p : Plan) (r : ℕ) where
-  -- the tests of a request, from 11 on
-  module _ (σ : State) (a : Answer) where
-    abbrev Test42 : Type 0
-    Test42 = Finds (Derails p σ r) (λ x. Accident (Derailment x)) a (a ≡ Granted r)
-
-    abbrev Test14 : Type 0
-    Test14 = Finds (HeldListed p σ r) (λ x. Refused (Held x)) a Test42
-
-    abbrev Test13 : Type 0
-    Test13 = Finds (Busy p σ (routeOf p r .clear)) (λ u. Refused (Occupied u)) a Test14
-
-    abbrev Test12 : Type 0
-    Test12 = Passes (SignalRed p σ r) (Refused NotRed) a Test13
-
-  tests : (σ : State) (a : Answer) → Given p σ (Request r) a → Tested p σ (Request r) a (Test12 σ a)
-  tests σ a (Given.row10 n) = inl (n, refl)
-  tests σ a (Given.row11 w n) = inr (w, inl (n, refl))
-  tests σ a (Given.row12 w known n) = inr (w, inr (known, inl (n, refl)))
-  tests σ a (Given.row13 {u = u} w known isRed lowest) = inr (w, inr (known, inr (isRed, inl (u, lowest, refl))))
-  tests σ a (Given.row14 {q = x} w known isRed clear lowest) = inr (w, inr (known, inr (isRed, inr (clear, inl (x, lowest, refl)))))
-  tests σ a (Given.row42 {q = x} w known isRed clear idle lowest) = inr (w, inr (known, inr (isRed, inr (clear, inr (idle, inl (x, lowest, refl))))))
-  tests σ a (Given.granted w known isRed clear idle calm) = inr (w, inr (known, inr (isRed, inr (clear, inr (idle, inr (calm, refl))))))
-
   -- what the tests look at
   alike-sym : (σ τ : State) → Alike p r σ τ → Alike p r τ σ
   alike-sym σ τ k = record {
@@ -62,17 +37,21 @@ module _ (p : Plan) (r : ℕ) where
     derails-alike x (t, inl (w, d)) = (λ z. t (k .trains x (inr w) ∙ z), inl (w, λ z. d (k .lies x (inr w) ∙ z)))
     derails-alike x (t, inr (n, w, d)) = (λ z. t (k .trains x (inl w) ∙ z), inr (n, w, λ z. d (k .lies x (inl w) ∙ z)))
 
-  pub request-alike : (σ τ : State) (a b : Answer) → (WellFormed p σ → WellFormed p τ) → (WellFormed p τ → WellFormed p σ) → Alike p r σ τ
-      → Given p σ (Request r) a → Given p τ (Request r) b → a ≡ b
-  request-alike σ τ a b f g k x y =
+  -- a line for each row
+  request-alike : (σ τ : State) → WellFormed p σ ↔ WellFormed p τ → Alike p r σ τ → Within Answer (tableOf p σ (Request r)) (tableOf p τ (Request r))
+  unfolding tableOf eventTable requestTable
+  request-alike σ τ i k =
       let j = alike-sym σ τ k in
-      same-passes a b _ _ _ _ f g _ (tests σ a x) (tests τ b y) λ w x y.
-      passed a b _ _ _ _ x y λ known x y.
-      same-passes a b _ _ _ _ (red-alike σ τ k) (red-alike τ σ j) _ x y λ isRed x y.
-      same-finds a b _ _ _ _ (busy-alike σ τ k) (busy-alike τ σ j) _ x y λ x y.
-      same-finds a b _ _ _ _ (held-alike σ τ k) (held-alike τ σ j) _ x y λ x y.
-      same-finds a b _ _ _ _ (derails-alike σ τ k) (derails-alike τ σ j) _ x y λ x y.
-      x ∙ sym y
+      needs-alike i
+      (needs-alike (λ h. h, λ h. h)
+      (needs-alike (red-alike σ τ k, red-alike τ σ j)
+      (names-alike (λ u. (busy-alike σ τ k u, busy-alike τ σ j u))
+      (names-alike (λ x. (held-alike σ τ k x, held-alike τ σ j x))
+      (names-alike (λ x. (derails-alike σ τ k x, derails-alike τ σ j x))
+      last-alike)))))
 
 pub demand2→agreement : (box : Box) → Demand2 box → Agreement box
-demand2→agreement box d p reads r σ τ f g k = request-alike p r σ τ _ _ (λ w. g) (λ w. f) k (d .answers p reads σ (Request r)) (d .answers p reads τ (Request r))
+demand2→agreement box d p reads r σ τ f g k =
+    let a = d .answers p reads σ (Request r) in
+    let b : Given p τ (Request r) (box .answer p σ (Request r)) = record { row = request-alike p r σ τ (λ w. g, λ w. f) k .carries _ (a .row) } in
+    one-given p reads τ b (d .answers p reads τ (Request r))

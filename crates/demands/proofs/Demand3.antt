@@ -1,6 +1,6 @@
 -- A box that obeys the written rules is safe on every accepted plan: along a run each step keeps the state well formed, the invariant and what
 -- demand 3 says of the answers so far.
-use mathlib.Core.Path.{_≡_, refl, ap}
+use mathlib.Core.Path.{_≡_, refl, ap, subst}
 use mathlib.Core.List.{List, [], _∷_, _++_, append-assoc, append-nil}
 use Prim.Native.Nat.{ℕ, zero, suc}
 use native.Mathlib.Omega.{arith}
@@ -9,16 +9,20 @@ use Rattle.laws.specs.Tests.{never}
 use Rattle.laws.specs.Lists.{All}
 use Rattle.plan.specs.Records.{Plan}
 use Rattle.plan.specs.File.{Readable}
-use Rattle.rules.specs.Sentences.{Sound}
+use Rattle.rules.specs.Verdict.{Sound}
 use Rattle.state.specs.declared.State.{State}
 use Rattle.state.specs.State.{WellFormed, fresh}
 use Rattle.events.specs.declared.Event.{Event}
 use Rattle.events.specs.declared.Refusal.the-variants.{IllFormed}
 use Rattle.events.specs.declared.Answer.{Answer}
-use Rattle.events.specs.declared.Answer.the-variants.{Refused, Granted}
-use Rattle.events.specs.Meaning.{Given}
-use Rattle.demands.specs.Demands.{Box, Follows, Demand2, history, reached, total, Safe, Demand3}
-use Rattle.demands.proofs.Formed.{stays, fresh-formed, no-train, no-hold}
+use Rattle.events.specs.declared.Deed.the-variants.{Granted}
+use Rattle.events.specs.declared.Answer.the-variants.{Refused, Done}
+use Rattle.events.specs.Answers.{refusalNumber}
+use Rattle.events.specs.Meaning.{Follows}
+use Rattle.events.proofs.Told.{Told}
+use Rattle.events.proofs.Given.{told}
+use Rattle.demands.specs.Demands.{Box, Demand2, history, reached, total, Safe, Demand3}
+use Rattle.events.proofs.Kept.{stays, fresh-formed, no-train, no-hold}
 use Rattle.demands.proofs.Invariant.{Invariant, fresh-invariant}
 use Rattle.demands.proofs.Accidents.{no-accident}
 use Rattle.demands.proofs.Steps.{keeps}
@@ -56,7 +60,7 @@ fresh-safe p = record {
   shownMost = shown-most fresh;
   shownTrain = shown-train fresh;
   single = λ q r x h k. absurd (no-hold q x h);
-  held = λ r x. (λ h. absurd (no-hold r x h), λ w. absurd (no-split (Granted r) (w .1 .earlier) (w .1 .later) (w .1 .splits)));
+  held = λ r x. (λ h. absurd (no-hold r x h), λ w. absurd (no-split (Done (Granted r)) (w .1 .earlier) (w .1 .later) (w .1 .splits)));
   unharmed = tt;
   formed = tt;
 }
@@ -66,24 +70,25 @@ fresh-safe p = record {
     no-split a (b ∷ earlier) later e = never (cc)
 
 module _ (p : Plan) (reads : Readable p) (sound : Sound p) where
-  safe-after : {event : Event} (h : List Answer) (σ τ : State) (a : Answer) → WellFormed p σ → Invariant p σ → Safe p h σ → Given p σ event a → Follows p σ τ a
+  safe-after : (h : List Answer) (σ τ : State) (a : Answer) → WellFormed p σ → Invariant p σ → Safe p h σ → Told p σ a → Follows p σ τ a
       → Safe p (h ++ (a ∷ [])) τ
-  safe-after h σ τ a w inv s given f = record {
-    counted = λ u. counts σ τ h a given f u (s .counted u);
+  unfolding refusalNumber
+  safe-after h σ τ a w inv s t f = record {
+    counted = λ u. counts p σ τ h a t f u (s .counted u);
     shownMost = shown-most τ;
     shownTrain = shown-train τ;
-    single = single-after σ τ a given f (s .single);
+    single = single-after p σ τ a t f (s .single);
     held = λ r x. held-after p r x σ τ h a f (s .held r x);
-    unharmed = all-last _ h a (s .unharmed) (λ harm e. no-accident p reads sound σ inv w harm (rw e at given));
-    formed = all-last _ h a (s .formed) (λ e. ill (rw e at given));
+    unharmed = all-last _ h a (s .unharmed) (λ harm e. no-accident p reads sound σ inv w harm (subst (Told p σ) e t));
+    formed = all-last _ h a (s .formed) (λ e. ill (subst (Told p σ) e t) w);
   }
     where
-      ill : {event : Event} → Given p σ event (Refused IllFormed) → ⊥
-      ill (Given.row10 n) = n w
+      ill : Told p σ (Refused IllFormed) → WellFormed p σ → ⊥
+      ill n = n
 
   -- on this plan the box obeys the written rules, wherever it can come from fresh
   abbrev pub Obeys : Box → Type 0
-  Obeys box = (σ : State) (event : Event) → WellFormed p σ → Invariant p σ → Given p σ event (box .answer p σ event) × Follows p σ (box .next p σ event) (box .answer p σ event)
+  Obeys box = (σ : State) (event : Event) → WellFormed p σ → Invariant p σ → Told p σ (box .answer p σ event) × Follows p σ (box .next p σ event) (box .answer p σ event)
 
   pub obeys-safe : (box : Box) → Obeys box → (events : List Event) → Safe p (history box p fresh events) (reached box p fresh events)
   obeys-safe box obeys events = (along box p (Kept p) step [] fresh start events) .safe
@@ -93,12 +98,12 @@ module _ (p : Plan) (reads : Readable p) (sound : Sound p) where
 
       step : (h : List Answer) (σ : State) (event : Event) → Kept p h σ → Kept p (h ++ (box .answer p σ event ∷ [])) (box .next p σ event)
       step h σ event k =
-          let (given, f) = obeys σ event (k .formed) (k .invariant) in
+          let (t, f) = obeys σ event (k .formed) (k .invariant) in
           record {
-            formed = stays σ (box .next p σ event) reads (k .formed) (box .answer p σ event) given f;
-            invariant = keeps reads sound (k .formed) (k .invariant) (box .answer p σ event) given f;
-            safe = safe-after h σ (box .next p σ event) (box .answer p σ event) (k .formed) (k .invariant) (k .safe) given f;
+            formed = stays σ (box .next p σ event) reads (k .formed) (box .answer p σ event) t f;
+            invariant = keeps reads sound (k .formed) (k .invariant) (box .answer p σ event) t f;
+            safe = safe-after h σ (box .next p σ event) (box .answer p σ event) (k .formed) (k .invariant) (k .safe) t f;
           }
 
 pub demand2→demand3 : (box : Box) → Demand2 box → Demand3 box
-demand2→demand3 box d p reads sound = obeys-safe p reads sound box (λ σ event w inv. (d .answers p reads σ event, d .states p reads σ event))
+demand2→demand3 box d p reads sound = obeys-safe p reads sound box (λ σ event w inv. (told p reads σ (d .answers p reads σ event), d .states p reads σ event))

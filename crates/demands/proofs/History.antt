@@ -3,19 +3,22 @@ use mathlib.Core.Path.{_≡_, refl, sym, ap, _∙_, subst}
 use mathlib.Core.Logic.{_≢_, _⊎_, inl, inr}
 use mathlib.Core.List.{List, [], _∷_, _++_, append-assoc}
 use Prim.Native.Nat.{ℕ}
+use Rattle.laws.specs.declared.Found.the-variants.{At, Nothing}
 use Rattle.laws.specs.Tests.{never, same?}
 use Rattle.laws.specs.Lists.{All}
 use Rattle.plan.specs.Records.{Plan}
 use Rattle.rules.specs.Sentences.{Exactly}
 use Rattle.state.specs.declared.State.{State}
 use Rattle.state.specs.State.{heldBy, Holds}
-use Rattle.events.specs.declared.Event.{Event}
 use Rattle.events.specs.declared.Answer.{Answer}
-use Rattle.events.specs.declared.Answer.the-variants.{Refused, Accident, Granted, Cancelled, Entered, Moved, Left}
-use Rattle.events.specs.Meaning.{Listed, Releases, Given}
-use Rattle.demands.specs.Demands.{Follows, SinceGrant}
-use Rattle.demands.proofs.Cases.{listed?, releases?}
-use Rattle.demands.proofs.Follow.{grant-holds, cancel-holds, move-holds}
+use Rattle.events.specs.declared.Deed.the-variants.{Granted, Cancelled, Entered, Moved, Left}
+use Rattle.events.specs.declared.Answer.the-variants.{Refused, Accident, Done}
+use Rattle.events.specs.Answers.{deedArrives, arrivesOn}
+use Rattle.events.specs.Meaning.{Listed, Releases, Follows}
+use Rattle.events.proofs.Told.{Told}
+use Rattle.demands.specs.Demands.{SinceGrant}
+use Rattle.events.proofs.Cases.{listed?, releases?}
+use Rattle.events.proofs.Follow.{grant-holds, cancel-holds, move-holds}
 
 -- Lists with one more element at the end.
 
@@ -42,44 +45,46 @@ last-split (b ∷ l) a x (y ∷ earlier) later e = elim (last-split l a x earlie
 ]
 
 module _ (p : Plan) (r x : ℕ) where
-  -- an answer that leaves a hold of r on x alone: no grant or cancel of r, no move onto a release track of x
-  abbrev Spares : Answer → Type 0
-  Spares (Refused refusal) = Unit
-  Spares (Accident harm) = Unit
-  Spares (Granted q) = q ≢ r
-  Spares (Cancelled q) = q ≢ r
-  Spares (Entered train u) = Unit
-  Spares (Moved train u v) = Releases p v x r → ⊥
-  Spares (Left train u) = Unit
+  -- an answer that leaves a hold of r on x alone: no grant or cancel of r, no arrival on a release track of x
+  record Spares (a : Answer) : Type 0 where
+    ungranted : a ≢ Done (Granted r)
+    uncancelled : a ≢ Done (Cancelled r)
+    unreleased : (v : ℕ) → arrivesOn a ≡ At v → Releases p v x r → ⊥
 
-  spares : (a : Answer) → a ≢ Granted r → a ≢ Cancelled r → ((train u v : ℕ) → a ≡ Moved train u v → Releases p v x r → ⊥) → Spares a
-  spares (Refused refusal) g c m = tt
-  spares (Accident harm) g c m = tt
-  spares (Granted q) g c m = λ e. g (ap Granted e)
-  spares (Cancelled q) g c m = λ e. c (ap Cancelled e)
-  spares (Entered train u) g c m = tt
-  spares (Moved train u v) g c m = m train u v refl
-  spares (Left train u) g c m = tt
+  -- an answer by which no train arrives
+  quiet : {a : Answer} → a ≢ Done (Granted r) → a ≢ Done (Cancelled r) → arrivesOn a ≡ Nothing → Spares a
+  quiet g c n = record { ungranted = g; uncancelled = c; unreleased = λ v e. never (cc) }
 
   module _ (σ τ : State) where
     spared : (a : Answer) → Spares a → Follows p σ τ a → heldBy τ r x ≡ heldBy σ r x
+    unfolding deedArrives
     spared (Refused refusal) s f = rw f
     spared (Accident harm) s f = rw f
-    spared (Granted q) s f = f .otherHolds r x (inl (λ e. s (sym e)))
-    spared (Cancelled q) s f = f .otherHolds r x (λ e. s (sym e))
-    spared (Entered train u) s f = f .holds r x
-    spared (Moved train u v) s f = f .otherHolds r x s
-    spared (Left train u) s f = f .holds r x
+    spared (Done (Granted q)) s f = f .otherHolds r x (inl (λ e. s .ungranted (rw e)))
+    spared (Done (Cancelled q)) s f = f .otherHolds r x (λ e. s .uncancelled (rw e))
+    spared (Done (Entered train u)) s f = f .holds r x
+    spared (Done (Moved train u v)) s f = f .otherHolds r x (s .unreleased v refl)
+    spared (Done (Left train u)) s f = f .holds r x
 
     -- an answer leaves the hold alone, or grants the route, or ends the hold
-    ends? : (a : Answer) → Follows p σ τ a → Spares a ⊎ ((a ≡ Granted r) ⊎ (Holds τ r x → ⊥))
-    ends? (Refused refusal) f = inl tt
-    ends? (Accident harm) f = inl tt
-    ends? (Granted q) f = elim (same? q r) [ inl e ↦ inr (inl (ap Granted e)) | inr d ↦ inl d ]
-    ends? (Cancelled q) f = elim (same? q r) [ inl e ↦ inr (inr (λ h. ((cancel-holds f r x h) .0) (sym e))) | inr d ↦ inl d ]
-    ends? (Entered train u) f = inl tt
-    ends? (Moved train u v) f = elim (releases? p v x r) [ inl e ↦ inr (inr (f .holds r x e)) | inr d ↦ inl d ]
-    ends? (Left train u) f = inl tt
+    ends? : (a : Answer) → Follows p σ τ a → Spares a ⊎ ((a ≡ Done (Granted r)) ⊎ (Holds τ r x → ⊥))
+    unfolding deedArrives
+    ends? (Refused refusal) f = inl (quiet (λ e. never (cc)) (λ e. never (cc)) refl)
+    ends? (Accident harm) f = inl (quiet (λ e. never (cc)) (λ e. never (cc)) refl)
+    ends? (Done (Granted q)) f = elim (same? q r) [
+      | inl e ↦ inr (inl (rw e))
+      | inr d ↦ inl (quiet (λ e. d (cc)) (λ e. never (cc)) refl)
+    ]
+    ends? (Done (Cancelled q)) f = elim (same? q r) [
+      | inl e ↦ inr (inr (λ h. ((cancel-holds f r x h) .0) (sym e)))
+      | inr d ↦ inl (quiet (λ e. never (cc)) (λ e. d (cc)) refl)
+    ]
+    ends? (Done (Entered train u)) f = inl (quiet (λ e. never (cc)) (λ e. never (cc)) refl)
+    ends? (Done (Moved train u v)) f = elim (releases? p v x r) [
+      | inl e ↦ inr (inr (f .holds r x e))
+      | inr d ↦ inl (record { ungranted = λ e. never (cc); uncancelled = λ e. never (cc); unreleased = λ w e. let z : v ≡ w = cc in rw z at d })
+    ]
+    ends? (Done (Left train u)) f = inl (quiet (λ e. never (cc)) (λ e. never (cc)) refl)
 
     -- The history after one more answer.
     module _ (h : List Answer) (a : Answer) (f : Follows p σ τ a) (so-far : Exactly (Holds σ r x) (Listed p r x × SinceGrant p r x h)) where
@@ -87,20 +92,20 @@ module _ (p : Plan) (r x : ℕ) where
       still s since = record {
         earlier = since .earlier;
         later = since .later ++ (a ∷ []);
-        splits = ap (λ l. l ++ (a ∷ [])) (since .splits) ∙ append-assoc (since .earlier) (Granted r ∷ since .later) (a ∷ []);
-        latest = all-last _ (since .later) a (since .latest) (λ e. subst Spares e s refl);
-        uncancelled = all-last _ (since .later) a (since .uncancelled) (λ e. subst Spares e s refl);
-        unreleased = all-last _ (since .later) a (since .unreleased) (λ train u v e. subst Spares e s);
+        splits = ap (λ l. l ++ (a ∷ [])) (since .splits) ∙ append-assoc (since .earlier) (Done (Granted r) ∷ since .later) (a ∷ []);
+        latest = all-last _ (since .later) a (since .latest) (s .ungranted);
+        uncancelled = all-last _ (since .later) a (since .uncancelled) (s .uncancelled);
+        unreleased = all-last _ (since .later) a (since .unreleased) (s .unreleased);
       }
 
-      now : a ≡ Granted r → SinceGrant p r x (h ++ (a ∷ []))
+      now : a ≡ Done (Granted r) → SinceGrant p r x (h ++ (a ∷ []))
       unfolding All
       now e = record { earlier = h; later = []; splits = ap (λ b. h ++ (b ∷ [])) e; latest = tt; uncancelled = tt; unreleased = tt }
 
       pub held-after : Exactly (Holds τ r x) (Listed p r x × SinceGrant p r x (h ++ (a ∷ [])))
       held-after = (forth, back)
         where
-          granted : a ≡ Granted r → Holds τ r x → Listed p r x × SinceGrant p r x (h ++ (a ∷ []))
+          granted : a ≡ Done (Granted r) → Holds τ r x → Listed p r x × SinceGrant p r x (h ++ (a ∷ []))
           granted e k = elim (listed? p r x) [
             | inl l ↦ (l, now e)
             | inr l ↦ absurd (l (so-far .0 (sym ((subst (Follows p σ τ) e f) .otherHolds r x (inr l)) ∙ k) .0))
@@ -114,25 +119,25 @@ module _ (p : Plan) (r x : ℕ) where
           ]
 
           back : Listed p r x × SinceGrant p r x (h ++ (a ∷ [])) → Holds τ r x
-          back (l, since) = elim (last-split h a (Granted r) (since .earlier) (since .later) (since .splits)) [
+          back (l, since) = elim (last-split h a (Done (Granted r)) (since .earlier) (since .later) (since .splits)) [
             | inl (none, e) ↦ (subst (Follows p σ τ) e f) .holds x l
             | inr (before, e, g) ↦ (let (c1, k1) = all-but _ before a (rw e at (since .latest)) in
                 let (c2, k2) = all-but _ before a (rw e at (since .uncancelled)) in
                 let (c3, k3) = all-but _ before a (rw e at (since .unreleased)) in
-                spared a (spares a k1 k2 k3) f
+                spared a (record { ungranted = k1; uncancelled = k2; unreleased = k3 }) f
                 ∙ so-far .1 (l, record { earlier = since .earlier; later = before; splits = g; latest = c1; uncancelled = c2; unreleased = c3 }))
           ]
 
 -- At most one route holds a point: a grant takes only points that nobody holds.
-pub single-after : {p : Plan} {event : Event} (σ τ : State) (a : Answer) → Given p σ event a → Follows p σ τ a
+pub single-after : (p : Plan) (σ τ : State) (a : Answer) → Told p σ a → Follows p σ τ a
     → ((q r x : ℕ) → Holds σ q x → Holds σ r x → q ≡ r) → (q r x : ℕ) → Holds τ q x → Holds τ r x → q ≡ r
-single-after σ τ (Refused refusal) given f one q r x h k = one q r x (rw f at h) (rw f at k)
-single-after σ τ (Accident harm) given f one q r x h k = one q r x (rw f at h) (rw f at k)
-single-after σ τ (Granted n) (Given.granted w known isRed clear idle calm) f one q r x h k = elim (grant-holds f q x h) [
-  | inl a ↦ (elim (grant-holds f r x k) [ inl b ↦ a .0 ∙ sym (b .0) | inr b ↦ absurd (idle x (a .1, (r, b .1))) ])
-  | inr a ↦ (elim (grant-holds f r x k) [ inl b ↦ absurd (idle x (b .1, (q, a .1))) | inr b ↦ one q r x (a .1) (b .1) ])
+single-after p σ τ (Refused refusal) t f one q r x h k = one q r x (rw f at h) (rw f at k)
+single-after p σ τ (Accident harm) t f one q r x h k = one q r x (rw f at h) (rw f at k)
+single-after p σ τ (Done (Granted n)) t f one q r x h k = elim (grant-holds f q x h) [
+  | inl a ↦ (elim (grant-holds f r x k) [ inl b ↦ a .0 ∙ sym (b .0) | inr b ↦ absurd (t .idle x (a .1, (r, b .1))) ])
+  | inr a ↦ (elim (grant-holds f r x k) [ inl b ↦ absurd (t .idle x (b .1, (q, a .1))) | inr b ↦ one q r x (a .1) (b .1) ])
 ]
-single-after σ τ (Cancelled n) given f one q r x h k = one q r x ((cancel-holds f q x h) .1) ((cancel-holds f r x k) .1)
-single-after σ τ (Entered train u) given f one q r x h k = one q r x (sym (f .holds q x) ∙ h) (sym (f .holds r x) ∙ k)
-single-after σ τ (Moved train u v) given f one q r x h k = one q r x ((move-holds f q x h) .1) ((move-holds f r x k) .1)
-single-after σ τ (Left train u) given f one q r x h k = one q r x (sym (f .holds q x) ∙ h) (sym (f .holds r x) ∙ k)
+single-after p σ τ (Done (Cancelled n)) t f one q r x h k = one q r x ((cancel-holds f q x h) .1) ((cancel-holds f r x k) .1)
+single-after p σ τ (Done (Entered train u)) t f one q r x h k = one q r x (sym (f .holds q x) ∙ h) (sym (f .holds r x) ∙ k)
+single-after p σ τ (Done (Moved train u v)) t f one q r x h k = one q r x ((move-holds f q x h) .1) ((move-holds f r x k) .1)
+single-after p σ τ (Done (Left train u)) t f one q r x h k = one q r x (sym (f .holds q x) ∙ h) (sym (f .holds r x) ∙ k)

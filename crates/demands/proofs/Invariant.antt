@@ -11,14 +11,18 @@ use Rattle.plan.specs.Records.{Plan, routeOf}
 use Rattle.plan.specs.File.{Readable}
 use Rattle.plan.specs.Layout.{out, leg}
 use Rattle.rules.specs.Rules.{pathLength, trackAt, pointsOf}
-use Rattle.rules.specs.Sentences.{Facing, Trailing, Home, Sound}
+use Rattle.rules.specs.Sentences.{Facing, Trailing, Home}
+use Rattle.rules.specs.Verdict.{Sound}
+use Rattle.rules.proofs.Numbered.{twelve}
 use Rattle.state.specs.declared.State.{State}
 use Rattle.state.specs.State.{noTrain, greenFor, trainAt, lieAt, shownAt, HasTrain, Holds, fresh}
 use Rattle.events.specs.Meaning.{Listed, Releases, Next}
-use Rattle.demands.proofs.Cases.{Either, facing?, trailing?, lieOf, same-lie, lists, next-lie}
-use Rattle.demands.proofs.Facts.{straight, at-home, start-in, track-in, one-before, home-straight, release-on, release-later}
-use Rattle.demands.proofs.Follow.{green-red}
-use Rattle.demands.proofs.Formed.{no-train, no-hold, all-red}
+use Rattle.events.proofs.Facts.{start-below}
+use Rattle.events.proofs.Cases.{Either}
+use Rattle.demands.proofs.Cases.{facing?, trailing?, lieOf, same-lie, lists, next-lie}
+use Rattle.demands.proofs.Facts.{straight, at-home, track-in, one-before, home-straight, release-on, release-later}
+use Rattle.events.proofs.Follow.{green-red}
+use Rattle.events.proofs.Kept.{no-train, no-hold, all-red}
 
 -- Route r from its place i on: no train further on, and every listed point held that has not been given back up to here.
 pub record Ahead (p : Plan) (σ : State) (r i : ℕ) : Type 0 where
@@ -67,7 +71,7 @@ module _ (p : Plan) (reads : Readable p) (sound : Sound p) (σ : State) (inv : I
   home-keeps : (r x : ℕ) → r < length (p .routes) → Releases p (trackAt p r 0) x r → ⊥
   home-keeps r x known w =
       let (k, h, e) = release-on p reads sound r known (trackAt p r 0) x w in
-      (sound .rule6 r known) .apart 0 (suc k) (omega arith) h (sym e)
+      (twelve sound .rule6 r known) .apart 0 (suc k) (omega arith) h (sym e)
 
   -- a point at the place or ahead of it lies as listed
   lies-ahead : (r i k : ℕ) (lie : Bool) → Ahead p σ r i → i ≤ suc k → k < pathLength p r → In (trackAt p r (suc k)) (pointsOf p r lie)
@@ -82,7 +86,7 @@ module _ (p : Plan) (reads : Readable p) (sound : Sound p) (σ : State) (inv : I
   pub leg-ahead : (r i k : ℕ) → Ahead p σ r i → i ≤ k → k < pathLength p r → Trailing p (trackAt p r (suc k))
       → (lie : Bool) × (lieAt σ (trackAt p r (suc k)) ≡ lieOf lie) × (leg p (trackAt p r (suc k)) lie ≡ trackAt p r k)
   leg-ahead r i k a hi hk t =
-      let (lie, w, e) = (sound .rule9 r (a .known)) .legs k hk t in
+      let (lie, w, e) = (twelve sound .rule9 r (a .known)) .legs k hk t in
       (lie, lies-ahead r i k lie a (omega arith) hk w, e)
 
   -- a train on its way goes to the next track of its route
@@ -90,14 +94,14 @@ module _ (p : Plan) (reads : Readable p) (sound : Sound p) (σ : State) (inv : I
   goes-on r i v a hi n = let (lie, l, o) = next-lie p σ (trackAt p r i) v n in go i lie a hi l o (facing? p (trackAt p r i))
     where
       along : (i : ℕ) (lie : Bool) → i < pathLength p r → out p (trackAt p r i) lie ≡ v → (Facing p (trackAt p r i) → ⊥) → trackAt p r (suc i) ≡ v
-      along i lie hi o f = let (off, (way, e)) = (sound .rule6 r (a .known)) .lead i hi in sym e ∙ straight p (trackAt p r i) way lie f ∙ o
+      along i lie hi o f = let (off, (way, e)) = (twelve sound .rule6 r (a .known)) .lead i hi in sym e ∙ straight p (trackAt p r i) way lie f ∙ o
 
       go : (i : ℕ) (lie : Bool) → Ahead p σ r i → i < pathLength p r → lieAt σ (trackAt p r i) ≡ lieOf lie → out p (trackAt p r i) lie ≡ v
           → Either (Facing p (trackAt p r i)) → trackAt p r (suc i) ≡ v
       go i lie a hi l o (inr f) = along i lie hi o f
-      go zero lie a hi l o (inl f) = absurd (home-straight p reads sound (routeOf p r .start) (start-in p reads r (a .known)) (rw (at-home p r) at f))
+      go zero lie a hi l o (inl f) = absurd (home-straight p reads sound (routeOf p r .start) (start-below p reads r (a .known)) (rw (at-home p r) at f))
       go (suc i) lie a hi l o (inl f) =
-          let (way, w, h, e) = (sound .rule9 r (a .known)) .ways i (omega arith) f in
+          let (way, w, h, e) = (twelve sound .rule9 r (a .known)) .ways i (omega arith) f in
           let same : way ≡ lie = same-lie way lie (sym (lies-ahead r (suc i) i way a (omega arith) (omega arith) w) ∙ l) in
           sym e ∙ ap (out p (trackAt p r (suc i))) same ∙ o
 
@@ -110,7 +114,7 @@ module _ (p : Plan) (reads : Readable p) (sound : Sound p) (σ : State) (inv : I
         let same : way ≡ lie = same-lie way lie (sym m ∙ ap (lieAt σ) e ∙ l) in
         sym y ∙ ap (λ v. leg p v way) e ∙ ap (leg p (trackAt p r (suc i))) same ∙ x)
     | inr t ↦ one-before p reads sound (trackAt p q k) (trackAt p r i) (trackAt p r (suc i)) (track-in p reads r (suc i) (a .known) hi) t
-        (rw e at ((sound .rule6 q (b .known)) .lead k hk)) ((sound .rule6 r (a .known)) .lead i hi)
+        (rw e at ((twelve sound .rule6 q (b .known)) .lead k hk)) ((twelve sound .rule6 r (a .known)) .lead i hi)
   ]
 
   -- who is free ahead into the track that a train goes to comes from where the train is

@@ -1,14 +1,11 @@
 pub mod Cases
 pub mod Facts
-pub mod Follow
-pub mod Formed
 pub mod Invariant
 pub mod Accidents
 pub mod Steps
 pub mod Counting
 pub mod History
 pub mod Demand3
-pub mod Chain
 pub mod Agreement
 pub mod Once
 pub mod Verdicts

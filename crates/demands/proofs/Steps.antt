@@ -1,6 +1,6 @@
 -- Each answer keeps the invariant: a grant takes a way that is free and points that nobody holds; a cancel has no train on its way; an entry is where
 -- nothing leads to; a train that leaves takes nothing; a train that moves keeps to its way, which nobody else has ahead.
-use mathlib.Core.Path.{_≡_, sym, ap, _∙_}
+use mathlib.Core.Path.{_≡_, sym, ap, _∙_, subst}
 use mathlib.Core.Bool.{Bool, true, false}
 use mathlib.Core.Logic.{_≢_, inl, inr}
 use Prim.Native.Nat.{ℕ, zero, suc, _<_, _≤_}
@@ -11,17 +11,23 @@ use Rattle.laws.specs.Lists.{In}
 use Rattle.plan.specs.Records.{Plan, routeOf, entryOf}
 use Rattle.plan.specs.File.{Readable}
 use Rattle.rules.specs.Rules.{pathLength, trackAt, pointsOf}
-use Rattle.rules.specs.Sentences.{Home, Sound}
+use Rattle.rules.specs.Sentences.{Home}
+use Rattle.rules.specs.Verdict.{Sound}
+use Rattle.rules.proofs.Numbered.{twelve}
 use Rattle.state.specs.declared.State.{State}
 use Rattle.state.specs.State.{noTrain, greenFor, trainAt, lieAt, shownAt, HasTrain, Holds, WellFormed}
-use Rattle.events.specs.declared.Event.{Event}
 use Rattle.events.specs.declared.Answer.{Answer}
-use Rattle.events.specs.declared.Answer.the-variants.{Refused, Accident, Granted, Cancelled, Entered, Moved, Left}
-use Rattle.events.specs.Meaning.{None, Listed, Busy, HeldListed, SignalGreen, Releases, Given, AfterGrant, AfterCancel, AfterEntry, AfterMove, AfterLeaving}
-use Rattle.demands.specs.Demands.{Follows}
-use Rattle.demands.proofs.Cases.{listed?, lieOf}
-use Rattle.demands.proofs.Facts.{at-home, start-in, path-clear, release-on}
-use Rattle.demands.proofs.Follow.{green-red, grant-holds, grant-keeps, grant-green, cancel-holds, cancel-signal, move-from, move-empty, move-holds, move-signal, leave-trains, leave-signal}
+use Rattle.events.specs.declared.Deed.the-variants.{Granted, Cancelled, Entered, Moved, Left}
+use Rattle.events.specs.declared.Answer.the-variants.{Refused, Accident, Done}
+use Rattle.laws.specs.Answers.{None}
+use Rattle.events.proofs.Told.{Told}
+use Rattle.events.proofs.Kept.{stood}
+use Rattle.events.specs.Meaning.{Listed, Busy, HeldListed, SignalGreen, Releases, AfterGrant, AfterCancel, AfterEntry, AfterMove, AfterLeaving, Follows}
+use Rattle.events.proofs.Facts.{start-below}
+use Rattle.events.proofs.Cases.{listed?}
+use Rattle.demands.proofs.Cases.{lieOf}
+use Rattle.demands.proofs.Facts.{at-home, path-clear, release-on}
+use Rattle.events.proofs.Follow.{green-red, grant-holds, grant-keeps, grant-green, cancel-holds, cancel-signal, move-from, move-empty, move-holds, move-signal, leave-trains, leave-signal}
 use Rattle.demands.proofs.Invariant.{Ahead, Mobile, Place, Way, Invariant, sole}
 use Rattle.demands.proofs.Accidents.{way}
 
@@ -61,7 +67,7 @@ module _ (p : Plan) (reads : Readable p) (sound : Sound p) (σ : State) (inv : I
 
     granted-lie : (x : ℕ) (lie : Bool) → In x (pointsOf p r lie) → lieAt τ x ≡ lieOf lie
     unfolding pointsOf
-    granted-lie x false w = g .normal x w (λ v. (sound .rule9 r known) .apart x w v)
+    granted-lie x false w = g .normal x w (λ v. (twelve sound .rule9 r known) .apart x w v)
     granted-lie x true w = g .reverse x w
 
     grant-lies : (q x : ℕ) (lie : Bool) → Holds τ q x → In x (pointsOf p q lie) → lieAt τ x ≡ lieOf lie
@@ -90,7 +96,7 @@ module _ (p : Plan) (reads : Readable p) (sound : Sound p) (σ : State) (inv : I
 
     not-there : (u : ℕ) → HasTrain σ u → (Home p u → ⊥) → (i : ℕ) → trackAt p r i ≡ u → i ≤ pathLength p r → ⊥
     not-there u t n zero e h =
-        let known = (inv .green r on) .known in n (routeOf p r .start, start-in p reads r known, sym (at-home p r) ∙ e)
+        let known = (inv .green r on) .known in n (routeOf p r .start, start-below p reads r known, sym (at-home p r) ∙ e)
     not-there u t n (suc i) e h = t (sym (ap (trainAt σ) e) ∙ (inv .green r on) .empty (suc i) (omega arith) h)
 
     pub cancel-kept : Invariant p τ
@@ -114,7 +120,7 @@ module _ (p : Plan) (reads : Readable p) (sound : Sound p) (σ : State) (inv : I
   module _ (train e : ℕ) (known : e < length (p .entries)) (f : AfterEntry σ τ train (entryOf p e .track)) where
     enter-ahead : {q n : ℕ} → Ahead p σ q n → Ahead p τ q n
     enter-ahead {q} a = ahead-kept a
-        (λ k h l z. f .otherTrains _ (λ y. (sound .rule5 e known) .nothing (trackAt p q k) (rw y at ((sound .rule6 q (a .known)) .lead k l))) ∙ z)
+        (λ k h l z. f .otherTrains _ (λ y. (twelve sound .rule5 e known) .nothing (trackAt p q k) (rw y at ((twelve sound .rule6 q (a .known)) .lead k l))) ∙ z)
         (λ x l kept h. f .holds q x ∙ h)
 
     pub enter-kept : Invariant p τ
@@ -122,7 +128,7 @@ module _ (p : Plan) (reads : Readable p) (sound : Sound p) (σ : State) (inv : I
       lies = λ q x lie h w. f .lies x ∙ inv .lies q x lie (sym (f .holds q x) ∙ h) w;
       green = λ q g. enter-ahead (inv .green q (sym (f .signals (routeOf p q .start)) ∙ g));
       away = λ u t n.
-          let d : u ≢ entryOf p e .track = λ y. n (rw y ((sound .rule5 e known) .home)) in
+          let d : u ≢ entryOf p e .track = λ y. n (rw y ((twelve sound .rule5 e known) .home)) in
           let pl = inv .away u (λ z. t (f .otherTrains u d ∙ z)) n in
           place-kept pl (enter-ahead (pl .ahead));
     }
@@ -170,7 +176,7 @@ module _ (p : Plan) (reads : Readable p) (sound : Sound p) (σ : State) (inv : I
       known = on .ahead .known;
       within = on .more;
       empty = λ j h l. move-empty m _
-          (λ e. (sound .rule6 (on .r) (on .ahead .known)) .apart (suc (on .i)) j h l (on .to ∙ sym e)) (on .ahead .empty j (omega arith) l);
+          (λ e. (twelve sound .rule6 (on .r) (on .ahead .known)) .apart (suc (on .i)) j h l (on .to ∙ sym e)) (on .ahead .empty j (omega arith) l);
       keeps = λ x l kept. m .otherHolds (on .r) x (λ f. kept (suc (on .i)) (omega arith) (rw (on .to) f)) ∙ on .ahead .keeps x l (λ j h. kept j (omega arith));
     }
 
@@ -181,7 +187,7 @@ module _ (p : Plan) (reads : Readable p) (sound : Sound p) (σ : State) (inv : I
         green q g = elim (move-signal m (routeOf p q .start)) [
           | inl z ↦ green-red _ q g z
           | inr z ↦ (let a = inv .green q (sym (z .1) ∙ g) in
-              move-ahead (λ e. z .0 (start-in p reads q (a .known), sym (at-home p q) ∙ e)) a)
+              move-ahead (λ e. z .0 (start-below p reads q (a .known), sym (at-home p q) ∙ e)) a)
         ]
 
         away : (x : ℕ) → Mobile τ x → (Home p x → ⊥) → Place p τ x
@@ -193,12 +199,13 @@ module _ (p : Plan) (reads : Readable p) (sound : Sound p) (σ : State) (inv : I
         ]
 
 -- A step.
-pub keeps : {p : Plan} {σ τ : State} {event : Event} → Readable p → Sound p → WellFormed p σ → Invariant p σ → (a : Answer) → Given p σ event a → Follows p σ τ a → Invariant p τ
-keeps reads sound formed inv (Refused refusal) given f = rw f inv
-keeps reads sound formed inv (Accident harm) given f = rw f inv
-keeps {p} {σ} {τ} reads sound formed inv (Granted r) (Given.granted w known isRed clear idle calm) f = grant-kept p reads sound σ inv τ r known clear idle f
-keeps {p} {σ} {τ} reads sound formed inv (Cancelled r) (Given.cancelled w known on empty) f = cancel-kept p reads sound σ inv τ r on f
-keeps {p} {σ} {τ} reads sound formed inv (Entered train u) (Given.entered {e = e} w known new clear empty) f = enter-kept p reads sound σ inv τ train e (known .0) f
-keeps {p} {σ} {τ} reads sound formed inv (Moved train u v) (Given.moved w known at go off next free through) f =
-    move-kept p reads sound σ inv τ train u v (λ z. known (sym at ∙ z)) (way p reads sound σ inv formed known at go off next) f
-keeps {p} {σ} {τ} reads sound formed inv (Left train u) given f = leave-kept p reads sound σ inv τ u f
+pub keeps : {p : Plan} {σ τ : State} → Readable p → Sound p → WellFormed p σ → Invariant p σ → (a : Answer) → Told p σ a → Follows p σ τ a → Invariant p τ
+keeps reads sound formed inv (Refused refusal) t f = rw f inv
+keeps reads sound formed inv (Accident harm) t f = rw f inv
+keeps {p} {σ} {τ} reads sound formed inv (Done (Granted r)) t f = grant-kept p reads sound σ inv τ r (t .known) (t .clear) (t .idle) f
+keeps {p} {σ} {τ} reads sound formed inv (Done (Cancelled r)) t f = cancel-kept p reads sound σ inv τ r (t .green) f
+keeps {p} {σ} {τ} reads sound formed inv (Done (Entered train u)) t f =
+    enter-kept p reads sound σ inv τ train (t .entry .e) (t .entry .known) (subst (AfterEntry σ τ train) (sym (t .entry .track)) f)
+keeps {p} {σ} {τ} reads sound formed inv (Done (Moved train u v)) t f =
+    move-kept p reads sound σ inv τ train u v (stood p reads σ (t .step .front)) (way p reads sound σ inv formed (t .step)) f
+keeps {p} {σ} {τ} reads sound formed inv (Done (Left train u)) t f = leave-kept p reads sound σ inv τ u f

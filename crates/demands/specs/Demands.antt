@@ -2,52 +2,53 @@
 -- followed by the theorem, in proofs/, that speaks of it. The page rests on these definitions, and on nothing else:
 --   plan/specs/Records.antt      Plan; plan/specs/File.antt: Readable, the plans that a file can hold
 --   scan/specs/Reading.antt      parse, what a file holds: a plan, or the form of the first bad byte (scan/proofs/Meaning.antt says what that means)
---   rules/specs/Sentences.antt   Sound, the twelve plan rules, each as its sentence for every row; Breaks, the lowest broken rule and row; Exactly
---   rules/specs/Rules.antt       ruleNumber and ruleRow, the document's numbers of a Verdict (rules/src/lib.rt)
+--   rules/specs/Sentences.antt   the twelve plan rules, each as its sentence of a row; Exactly
+--   rules/specs/Verdict.antt     rules, their list; Sound, each sentence is true of every row; Breaks, the lowest broken rule and row; ruleNumber and ruleRow, the
+--                                document's numbers of a Verdict (rules/src/lib.rt)
 --   state/specs/State.antt       State (state/src/lib.rt) and its views trainAt, HasTrain, Holds; fresh; WellFormed
---   events/src/lib.rt            Event, Answer, Refusal, Harm; events/specs/Events.antt: eventsOf, the events of any bytes
---   events/specs/Meaning.antt    Given, the table of answers; AfterGrant, AfterCancel, AfterEntry, AfterMove, AfterLeaving, SameTrains and so on:
---                                what a state shows after an answer; Listed, Releases: what a route lists and gives back; Alike
---   laws/specs/Lists.antt        All: each element of a list is so
+--   events/src/lib.rt            Event, Answer, Refusal, Harm, Deed; events/specs/Events.antt: eventsOf, the events of any bytes
+--   events/specs/Answers.antt    comesOn, arrivesOn, leavesFrom: where an answer, if it is a deed (ifDone), brings a train or takes one away
+--   events/specs/Meaning.antt    Given, the table of answers; Follows, what a state shows after an answer; SameTrains and so on; Listed, Releases:
+--                                what a route lists and gives back; Alike
+--   laws/specs/Answers.antt      Table, the rows of a table of answers, and Gives, the answer that it gives
+--   laws/specs/Lists.antt        All: each element of a list is so; laws/src/lib.rt: Found
+-- Demand 1, always an answer, needs no definition here: the functions of the public face (signalbox/src/lib.rt) ask nothing of their callers, and
+-- every function is proved to end.
+-- Signs: `(x : ℕ) → A` for every number x, A; `(x : ℕ) × A` there is a number x with A; `A → B` if A then B; `A × B` both; `A ⊎ B` one of the two;
+-- `A → ⊥` not A; `x ≡ y` equal, `x ≢ y` not.
 use mathlib.Core.Path.{_≡_}
 use mathlib.Core.Bool.{cond}
 use mathlib.Core.Logic.{_≢_}
 use mathlib.Core.List.{List, [], _∷_, _++_}
 use Prim.Native.Nat.{ℕ, _+_, _≤_}
 use lib.Dec.{eqb}
+use Rattle.laws.specs.declared.Found.{Found}
+use Rattle.laws.specs.declared.Found.the-variants.{At, Nothing}
 use Rattle.laws.specs.Lists.{All}
 use Rattle.plan.specs.Records.{Plan}
 use Rattle.plan.specs.File.{Readable}
 use Rattle.scan.specs.Reading.{Got, parse}
 use Rattle.rules.specs.declared.Verdict.{Verdict}
 use Rattle.rules.specs.declared.Verdict.the-variants.{Accepted}
-use Rattle.rules.specs.Rules.{ruleNumber, ruleRow}
-use Rattle.rules.specs.Sentences.{Exactly, Sound, Breaks}
+use Rattle.rules.specs.Sentences.{Exactly}
+use Rattle.rules.specs.Verdict.{Sound, Breaks, ruleNumber, ruleRow}
 use Rattle.state.specs.declared.State.{State}
 use Rattle.state.specs.State.{noTrain, trainAt, HasTrain, Holds, WellFormed, fresh}
 use Rattle.events.specs.declared.Event.{Event}
 use Rattle.events.specs.declared.Event.the-variants.{Request}
 use Rattle.events.specs.declared.Refusal.the-variants.{IllFormed}
 use Rattle.events.specs.declared.Harm.{Harm}
+use Rattle.events.specs.declared.Deed.the-variants.{Granted, Cancelled}
 use Rattle.events.specs.declared.Answer.{Answer}
-use Rattle.events.specs.declared.Answer.the-variants.{Refused, Accident, Granted, Cancelled, Entered, Moved, Left}
-use Rattle.events.specs.Meaning.{Given, AfterGrant, AfterCancel, AfterEntry, AfterMove, AfterLeaving, Listed, Releases, Alike, SameTrains, SameLies, SameHolds, SameSignals}
+use Rattle.events.specs.declared.Answer.the-variants.{Refused, Accident, Done}
+use Rattle.events.specs.Answers.{comesOn, arrivesOn, leavesFrom}
+use Rattle.events.specs.Meaning.{Given, Follows, Listed, Releases, Alike, SameTrains, SameLies, SameHolds, SameSignals}
 
 pub record Box : Type 0 where
   pub answer : Plan → State → Event → Answer
   pub next : Plan → State → Event → State
 
 -- Demand 2: exactly the written answer, and exactly the written next state.
-
--- the state τ after an answer: a refusal or an accident changes nothing at all
-abbrev pub Follows : Plan → State → State → Answer → Type 0
-Follows p σ τ (Refused refusal) = τ ≡ σ
-Follows p σ τ (Accident harm) = τ ≡ σ
-Follows p σ τ (Granted r) = AfterGrant p σ τ r
-Follows p σ τ (Cancelled r) = AfterCancel p σ τ r
-Follows p σ τ (Entered train u) = AfterEntry σ τ train u
-Follows p σ τ (Moved train u v) = AfterMove p σ τ train u v
-Follows p σ τ (Left train u) = AfterLeaving p σ τ u
 
 pub record Demand2 (box : Box) : Type 0 where
   pub answers : (p : Plan) → Readable p → (σ : State) (event : Event) → Given p σ event (box .answer p σ event)
@@ -87,29 +88,18 @@ module _ (box : Box) (p : Plan) where
 
 -- Comings and goings, from the answers alone.
 
--- 1 where the two tracks are one, else 0
-abbrev pub onceAt : ℕ → ℕ → ℕ
-onceAt u v = cond (eqb u v) 1 0
+-- 1 where the track is the one that is found, else 0
+unfoldable pub onceAt : ℕ → Found → ℕ
+onceAt u (At v) = cond (eqb u v) 1 0
+onceAt u Nothing = 0
 
--- an entry comes onto its track, a move onto the track entered
-unfoldable pub comes : ℕ → Answer → ℕ
-comes u (Refused refusal) = 0
-comes u (Accident harm) = 0
-comes u (Granted r) = 0
-comes u (Cancelled r) = 0
-comes u (Entered train v) = onceAt u v
-comes u (Moved train w v) = onceAt u v
-comes u (Left train w) = 0
+-- a train comes to stand on the track: it enters there, or moves onto it
+abbrev pub comes : ℕ → Answer → ℕ
+comes u answer = onceAt u (comesOn answer)
 
--- a move goes from the track left, and so does a train that leaves
-unfoldable pub goes : ℕ → Answer → ℕ
-goes u (Refused refusal) = 0
-goes u (Accident harm) = 0
-goes u (Granted r) = 0
-goes u (Cancelled r) = 0
-goes u (Entered train v) = 0
-goes u (Moved train w v) = onceAt u w
-goes u (Left train w) = onceAt u w
+-- a train goes from the track: it moves on, or leaves
+abbrev pub goes : ℕ → Answer → ℕ
+goes u answer = onceAt u (leavesFrom answer)
 
 unfoldable pub total : (Answer → ℕ) → List Answer → ℕ
 total f [] = 0
@@ -124,10 +114,10 @@ shown σ u = cond (eqb (trainAt σ u) noTrain) 0 1
 pub record SinceGrant (p : Plan) (r x : ℕ) (answers : List Answer) : Type 0 where
   pub earlier : List Answer
   pub later : List Answer
-  pub splits : answers ≡ earlier ++ (Granted r ∷ later)
-  pub latest : All (λ answer. answer ≢ Granted r) later
-  pub uncancelled : All (λ answer. answer ≢ Cancelled r) later
-  pub unreleased : All (λ answer. (train u v : ℕ) → answer ≡ Moved train u v → Releases p v x r → ⊥) later
+  pub splits : answers ≡ earlier ++ (Done (Granted r) ∷ later)
+  pub latest : All (λ answer. answer ≢ Done (Granted r)) later
+  pub uncancelled : All (λ answer. answer ≢ Done (Cancelled r)) later
+  pub unreleased : All (λ answer. (v : ℕ) → arrivesOn answer ≡ At v → Releases p v x r → ⊥) later
 
 -- Demand 3, of the answers so far and the state.
 pub record Safe (p : Plan) (answers : List Answer) (σ : State) : Type 0 where

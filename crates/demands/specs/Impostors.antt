@@ -8,14 +8,15 @@ use Rattle.plan.specs.File.{Readable}
 use Rattle.scan.specs.declared.Form.{Form}
 use Rattle.scan.specs.Reading.{Got, form, formNumber, formOffset}
 use Rattle.rules.specs.declared.Verdict.{Verdict}
-use Rattle.rules.specs.Rules.{ruleNumber, ruleRow}
+use Rattle.rules.specs.Verdict.{ruleNumber, ruleRow}
 use Rattle.state.specs.declared.State.{State}
 use Rattle.events.specs.declared.Event.{Event}
 use Rattle.events.specs.declared.Event.the-variants.{Enter}
 use Rattle.events.specs.declared.Refusal.{Refusal}
 use Rattle.events.specs.declared.Refusal.the-variants.{BadEvent}
+use Rattle.events.specs.declared.Deed.the-variants.{Entered, Moved, Left}
 use Rattle.events.specs.declared.Answer.{Answer}
-use Rattle.events.specs.declared.Answer.the-variants.{Refused, Accident, Granted, Cancelled, Entered, Moved, Left}
+use Rattle.events.specs.declared.Answer.the-variants.{Refused, Accident, Done}
 use Rattle.demands.specs.Demands.{Box, Demand2, Reads, Judges, reached, Demand3}
 
 -- it refuses everything, whatever the reason
@@ -38,11 +39,7 @@ hasty rest box = record { answer = box .answer; next = λ p σ event. reached bo
 abbrev pub hushed : Answer → Answer
 hushed (Refused refusal) = Refused refusal
 hushed (Accident harm) = Refused BadEvent
-hushed (Granted r) = Granted r
-hushed (Cancelled r) = Cancelled r
-hushed (Entered train u) = Entered train u
-hushed (Moved train u v) = Moved train u v
-hushed (Left train u) = Left train u
+hushed (Done deed) = Done deed
 
 abbrev pub hush : Box → Box
 hush box = record { answer = λ p σ event. hushed (box .answer p σ event); next = box .next }
@@ -63,6 +60,6 @@ pub record Impostors : Type 0 where
   pub offsetsFail : (read other : List ℕ → Got Plan) (file : List ℕ) {f g : Form} → Reads read → read file ≡ form f → other file ≡ form g
       → (formNumber g ≢ formNumber f) ⊎ (formOffset g ≢ formOffset f) → Reads other → ⊥
   -- invented comings and goings, whatever the states
-  pub comingsFail : (train u : ℕ) (box : Box) → Stock (Entered train u) box → Demand3 box → ⊥
-  pub goingsFail : (train u : ℕ) (box : Box) → Stock (Left train u) box → Demand3 box → ⊥
-  pub movesFail : (train u v : ℕ) (box : Box) → u ≢ v → Stock (Moved train u v) box → Demand3 box → ⊥
+  pub comingsFail : (train u : ℕ) (box : Box) → Stock (Done (Entered train u)) box → Demand3 box → ⊥
+  pub goingsFail : (train u : ℕ) (box : Box) → Stock (Done (Left train u)) box → Demand3 box → ⊥
+  pub movesFail : (train u v : ℕ) (box : Box) → u ≢ v → Stock (Done (Moved train u v)) box → Demand3 box → ⊥

@@ -6,17 +6,16 @@ use Prim.Native.Nat.{ℕ}
 use Rattle.plan.specs.Records.{Plan}
 use Rattle.scan.specs.Reading.{got, parse}
 use Rattle.rules.specs.declared.Verdict.the-variants.{Accepted}
-use Rattle.rules.specs.Rules.{verdict}
+use Rattle.rules.specs.Verdict.{verdict}
 use Rattle.state.specs.State.{fresh}
-use Rattle.events.specs.declared.Event.{Event}
 use Rattle.events.specs.Events.{eventsOf}
 use Rattle.events.specs.Decide.{answer}
-use Rattle.events.specs.After.{after}
+use Rattle.events.specs.After.{nextState}
 use Rattle.demands.specs.Demands.{Box, Demand2, Demand3, Judges, Agreement, Safe, history, reached}
 
 -- the answer of events/specs/Decide.antt, and the state of events/specs/After.antt that goes by it
 abbrev pub ours : Box
-ours = record { answer = answer; next = λ p σ event. after p σ (answer p σ event) }
+ours = record { answer = answer; next = nextState }
 
 pub record Shown : Type 0 where
   -- demand 2: exactly the written answer and next state; accepted exactly when the twelve sentences hold, else the lowest rule and row

@@ -7,7 +7,7 @@ use lib.ListN.{take, set}
 use Rattle.laws.specs.Lists.{joined}
 use Rattle.plan.specs.Records.{Plan}
 use Rattle.scan.specs.Reading.{Got, form, got, parse}
-use Rattle.rules.specs.Rules.{verdict}
+use Rattle.rules.specs.Verdict.{verdict}
 use Rattle.state.specs.State.{fresh}
 use Rattle.events.specs.Events.{eventsOf}
 use Rattle.lines.specs.Lines.{answerLine, verdictLine, formLine}

@@ -1,23 +1,22 @@
 -- What events ask of a plan, of any plan that can be read: everything that a route, an entry or a track names is there.
-use mathlib.Core.Path.{_≡_, refl, sym, ap, _∙_}
-use mathlib.Core.Bool.{Bool, true, false, not, cond, _&&_}
-use mathlib.Core.Logic.{_≢_, _⊎_, inl, inr}
+use mathlib.Core.Path.{_≡_, refl}
+use mathlib.Core.Bool.{Bool, true, false, cond, _&&_}
+use mathlib.Core.Logic.{_≢_, inl, inr}
 use mathlib.Core.List.{List, [], _∷_}
 use Prim.Native.Nat.{ℕ, zero, suc, _+_, _-_, _<_, _≤_}
 use native.Mathlib.Omega.{arith}
 use lib.ListN.{length, getD}
-use lib.Dec.{eqb, ltb}
-use borrow.Author.Tests.{eqb-true, eqb-false, eq-eqb, ne-eqb, lt-ltb}
-use Rattle.laws.specs.Tests.{Is, split, clash, below?, and-l}
+use lib.Dec.{eqb}
+use borrow.Author.Tests.{eqb-true, eq-eqb, ne-eqb, lt-ltb}
+use Rattle.laws.specs.Tests.{Is, clash, below?, and-l}
 use Rattle.laws.specs.Lists.{All, all-at, In}
 use Rattle.plan.specs.declared.Track.{Track}
-use Rattle.plan.specs.declared.Release.{Release}
 use Rattle.plan.specs.Limits.{mostTracks, mostSignals, mostRoutes}
-use Rattle.plan.specs.Records.{Plan, Route, Entry, noTrack, noRoute, noEntry, facing, exit, isPoint, trackOf, homeOf, routeOf, entryOf}
+use Rattle.plan.specs.Records.{Plan, noTrack, noRoute, noEntry, facing, exit, isPoint, trackOf, homeOf, routeOf, entryOf}
 use Rattle.plan.specs.Layout.{isExit, forks, out}
 use Rattle.plan.specs.Records.{uses, limitOf}
-use Rattle.plan.specs.File.{Rises, Within, ReadableTrack, ReadableRelease, ReadableRoute, ReadableEntry, Readable}
-use Rattle.events.specs.Meaning.{Listed, StandsAt, Releases, noRelease}
+use Rattle.plan.specs.File.{Rises, ReadableTrack, ReadableRoute, ReadableEntry, Readable}
+use Rattle.events.specs.Meaning.{Listed, StandsAt}
 
 -- past the end of a list stands what stands for nothing
 pub getD-none : {A : Type 0} (l : List A) (i : ℕ) (d : A) → length l ≤ i → getD l i d ≡ d
@@ -26,7 +25,7 @@ getD-none (a ∷ l) zero d h = absurd (omega arith)
 getD-none (a ∷ l) (suc i) d h = getD-none l i d (omega arith)
 
 -- what is so of each of a list is so of each that the list has
-each-in : (ok : ℕ → Type 0) (l : List ℕ) → All ok l → (x : ℕ) → In x l → ok x
+pub each-in : (ok : ℕ → Type 0) (l : List ℕ) → All ok l → (x : ℕ) → In x l → ok x
 each-in ok l w x m = rw (← m .2) (all-at ok l (m .0) 0 w (m .1))
 
 -- a list that rises rises over any distance
@@ -43,7 +42,7 @@ rises-lt : (l : List ℕ) → Rises l → (i j : ℕ) → i < j → j < length l
 rises-lt l h i j k b = let e : i + suc (j - (i + 1)) ≡ j = omega arith in rw (← e) (rises-far l h (j - (i + 1)) i (omega arith))
 
 -- a point is a track of the plan
-point-below : (tracks : List Track) (q : ℕ) → Is (isPoint tracks q) → q < length tracks
+pub point-below : (tracks : List Track) (q : ℕ) → Is (isPoint tracks q) → q < length tracks
 unfolding isPoint
 point-below tracks q e = elim (below? q (length tracks)) [
   | inl h ↦ h
@@ -60,7 +59,7 @@ module _ (p : Plan) (R : Readable p) where
   pub few-routes : length (p .routes) ≤ mostRoutes
   few-routes = R .routes .few
 
-  route-read : (r : ℕ) → r < length (p .routes) → ReadableRoute (p .tracks) (length (p .signals)) (routeOf p r)
+  pub route-read : (r : ℕ) → r < length (p .routes) → ReadableRoute (p .tracks) (length (p .signals)) (routeOf p r)
   unfolding routeOf
   route-read r h = all-at (ReadableRoute (p .tracks) (length (p .signals))) (p .routes) r noRoute (R .routes .each) h
 
@@ -71,6 +70,11 @@ module _ (p : Plan) (R : Readable p) where
   track-read : (u : ℕ) → u < length (p .tracks) → ReadableTrack (length (p .tracks)) (trackOf p u)
   unfolding trackOf
   track-read u h = all-at (ReadableTrack (length (p .tracks))) (p .tracks) u noTrack (R .tracks .each) h
+
+  -- a home is a track
+  pub home-below : (s : ℕ) → s < length (p .signals) → homeOf p s < length (p .tracks)
+  unfolding homeOf
+  home-below s h = all-at (λ u. u < length (p .tracks)) (p .signals) s 0 (R .signals .each) h
 
   -- a route's start is a signal; its clear tracks are tracks, its listed points are points
   pub start-below : (r : ℕ) → r < length (p .routes) → routeOf p r .start < length (p .signals)

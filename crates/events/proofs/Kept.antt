@@ -1,189 +1,243 @@
--- A well-formed state stays well formed, on any plan that can be read.
-use mathlib.Core.Path.{_≡_, refl, sym, ap, _∙_, subst}
-use mathlib.Core.Bool.{Bool, true, false}
+-- A well-formed state stays so, on any plan that can be read: each answer leaves trains, lies, holds and signals well formed, and fresh is well
+-- formed. Then what the definition of the state after leaves is what follows, and so is well formed too.
+use mathlib.Core.Path.{_≡_, refl, sym, ap, _∙_}
+use mathlib.Core.Bool.{true, false}
 use mathlib.Core.Logic.{_≢_, _⊎_, inl, inr}
-use Prim.Native.Nat.{ℕ, _<_, _≤_}
+use Prim.Native.Nat.{ℕ, zero, suc, _<_, _≤_}
 use native.Mathlib.Omega.{arith}
-use lib.ListN.{length}
-use Rattle.laws.specs.Tests.{Is, split, clash, below?, same?}
-use Rattle.laws.specs.Lists.{In, has, has-in, in-has}
-use Rattle.plan.specs.Records.{Plan, homeOf, isPoint, routeOf, entryOf}
-use Rattle.plan.specs.Layout.{isExit, out}
+use lib.ListN.{length, getD, replicate}
+use Rattle.laws.specs.Tests.{Is, clash, same?, below?}
+use Rattle.laws.specs.Lists.{In}
+use Rattle.laws.specs.Sets.{member-empty}
+use Rattle.plan.specs.Limits.{mostTracks, mostSignals}
+use Rattle.plan.specs.Records.{Plan, isPoint, routeOf}
 use Rattle.plan.specs.File.{Readable}
+use Rattle.plan.specs.Layout.{isExit}
 use Rattle.state.specs.declared.State.{State}
-use Rattle.state.specs.State.{noTrain, normalLie, reverseLie, red, greenFor, trainAt, lieAt, heldBy, shownAt, HasTrain, Holds, WellFormed}
+use Rattle.state.specs.State.{noTrain, normalLie, reverseLie, red, greenFor, trainAt, lieAt, heldBy, shownAt, HasTrain, Holds, WellFormed, fresh}
 use Rattle.events.specs.declared.Event.{Event}
+use Rattle.events.specs.declared.Deed.{Deed}
+use Rattle.events.specs.declared.Deed.the-variants.{Granted, Cancelled, Entered, Moved, Left}
 use Rattle.events.specs.declared.Answer.{Answer}
-use Rattle.events.specs.declared.Answer.the-variants.{Granted, Cancelled, Entered, Moved, Left}
-use Rattle.events.specs.Decide.{listed, answer}
-use Rattle.events.specs.After.{after}
-use Rattle.events.specs.Meaning.{Listed, StandsAt, SameLies, FrontAt, InPlan, Next, AfterGrant, AfterCancel, AfterEntry, AfterMove, AfterLeaving, Given, row10, row11, row12, row13, row14, row42, granted, row15, row16, cancelled, row17, entry13, entry40, entered, row18, row19, left, row40, row41, moved}
-use Rattle.events.proofs.Facts.{start-below, listed-point, listed-below, entry-below, out-below}
-use Rattle.events.proofs.Reflect.{listed-says, listed-hears}
-use Rattle.events.proofs.Views.{after-grant, after-cancel, after-entry, after-move, after-leaving, after-refusal, after-accident}
-use Rattle.events.proofs.Given.{given}
+use Rattle.events.specs.declared.Answer.the-variants.{Refused, Accident, Done}
+use Rattle.events.specs.Decide.{answer}
+use Rattle.events.specs.After.{afterDeed, after, nextState}
+use Rattle.events.specs.Meaning.{Listed, Next, AfterGrant, SameLies, FollowsDeed, Follows}
+use Rattle.events.proofs.Facts.{point-below, start-below, listed-point, entry-below, out-below}
+use Rattle.events.proofs.Told.{Front, Entering, Moving, Doing, Told}
+use Rattle.events.proofs.Given.{given, told}
+use Rattle.events.proofs.Cases.{in?, listed?}
+use Rattle.events.proofs.Views.{after-grant, after-cancel, after-entry, after-move, after-leaving}
+use Rattle.events.proofs.Follow.{green-red, not-red, grant-holds, grant-green, cancel-holds, cancel-signal, move-from, move-empty, move-holds, move-signal, leave-trains, leave-signal}
 
-module _ (p : Plan) (σ : State) (W : WellFormed p σ) where
-  -- a train stands on a track of the plan
-  pub train-below : (u : ℕ) → HasTrain σ u → u < length (p .tracks)
-  train-below u t = elim (below? u (length (p .tracks))) [ inl h ↦ h | inr h ↦ absurd (t (W .trainsEnd u h)) ]
+-- Where a deed brings and takes trains: tracks of the plan; a move goes to another track.
 
-  -- Where points lie as before, no hold is new and no green is new, only the trains are to be asked.
-  formed-less : (τ : State) → ((u v : ℕ) → HasTrain τ u → trainAt τ u ≡ trainAt τ v → u ≡ v) → ((u : ℕ) → length (p .tracks) ≤ u → trainAt τ u ≡ noTrain)
-      → SameLies σ τ → ((k q : ℕ) → Holds τ k q → Holds σ k q) → ((s : ℕ) → (shownAt τ s ≡ red) ⊎ (shownAt τ s ≡ shownAt σ s)) → WellFormed p τ
-  formed-less τ once end lies holds signals = record {
-    once = once;
-    trainsEnd = end;
-    liesEnd = λ q h. lies q ∙ W .liesEnd q h;
-    holdsEnd = λ k q h m. W .holdsEnd k q h (holds k q m);
-    signalsEnd = λ s h. elim (signals s) [ inl z ↦ z | inr z ↦ z ∙ W .signalsEnd s h ];
-    routesEnd = λ k q h m. W .routesEnd k q h (holds k q m);
-    heldPoint = λ k q m. W .heldPoint k q (holds k q m);
-    reversePoint = λ q z. W .reversePoint q (sym (lies q) ∙ z);
-    green = λ s r z. elim (signals s) [ inl e ↦ absurd (omega arith) | inr e ↦ W .green s r (sym e ∙ z) ];
-    lie = λ q. elim (W .lie q) [ inl z ↦ inl (lies q ∙ z) | inr z ↦ inr (lies q ∙ z) ];
+pub train-below : (p : Plan) (σ : State) → WellFormed p σ → (u : ℕ) → HasTrain σ u → u < length (p .tracks)
+train-below p σ w u t = elim (below? u (length (p .tracks))) [ inl h ↦ h | inr h ↦ absurd (t (w .trainsEnd u h)) ]
+
+module _ (p : Plan) (reads : Readable p) (σ : State) where
+  next-below : (u v : ℕ) → u < length (p .tracks) → (Is (isExit p u) → ⊥) → Next p σ u v → v < length (p .tracks)
+  next-below u v h x (inl w) = rw (← w .1) (out-below p reads u false h x)
+  next-below u v h x (inr w) = rw (← w .1) (out-below p reads u true h x)
+
+  pub entered-below : {train u : ℕ} → Entering p σ train u → u < length (p .tracks)
+  entered-below t = rw (← t .entry .track) (entry-below p reads (t .entry .e) (t .entry .known))
+
+  pub stood : {train u : ℕ} → Front p σ train u → HasTrain σ u
+  stood f z = f .numbered (sym (f .at) ∙ z)
+
+  pub moved-below : {train u v : ℕ} → Moving p σ train u v → v < length (p .tracks)
+  moved-below {train} {u} {v} t = let s = t .step in next-below u v (train-below p σ (s .front .formed) u (stood (s .front))) (s .onward) (s .next)
+
+  pub moved-apart : {train u v : ℕ} → Moving p σ train u v → u ≢ v
+  moved-apart t z = t .free (λ y. stood (t .step .front) (ap (trainAt σ) z ∙ y))
+
+-- The four parts of a well-formed state, from which the rest follows: points are tracks of the plan, and a green signal is one of its signals.
+
+record Trains (p : Plan) (σ : State) : Type 0 where
+  once : (u v : ℕ) → HasTrain σ u → trainAt σ u ≡ trainAt σ v → u ≡ v
+  end : (u : ℕ) → length (p .tracks) ≤ u → trainAt σ u ≡ noTrain
+
+record Lies (p : Plan) (σ : State) : Type 0 where
+  point : (x : ℕ) → lieAt σ x ≡ reverseLie → Is (isPoint (p .tracks) x)
+  two : (x : ℕ) → (lieAt σ x ≡ normalLie) ⊎ (lieAt σ x ≡ reverseLie)
+
+record Holdings (p : Plan) (σ : State) : Type 0 where
+  routes : (r x : ℕ) → length (p .routes) ≤ r → Holds σ r x → ⊥
+  point : (r x : ℕ) → Holds σ r x → Is (isPoint (p .tracks) x)
+
+record Signals (p : Plan) (σ : State) : Type 0 where
+  green : (s r : ℕ) → shownAt σ s ≡ greenFor r → (r < length (p .routes)) × (routeOf p r .start ≡ s)
+
+whole : {p : Plan} (σ : State) → Readable p → Trains p σ → Lies p σ → Holdings p σ → Signals p σ → WellFormed p σ
+whole {p} σ reads t l h g = record {
+  once = t .once;
+  trainsEnd = t .end;
+  liesEnd = λ x e. elim (l .two x) [ inl z ↦ z | inr z ↦ (let k = point-below (p .tracks) x (l .point x z) in absurd (omega arith)) ];
+  holdsEnd = λ r x e w. let z = point-below (p .tracks) x (h .point r x w) in omega arith;
+  signalsEnd = λ s e. elim (same? (shownAt σ s) red) [
+    | inl z ↦ z
+    | inr z ↦ (let (r, on) = not-red (shownAt σ s) z in
+        let (known, start) = g .green s r on in
+        let k = start-below p reads r known in absurd (omega arith))
+  ];
+  routesEnd = h .routes;
+  heldPoint = h .point;
+  reversePoint = l .point;
+  green = g .green;
+  lie = l .two;
+}
+
+-- What each change leaves of them.
+module _ {p : Plan} {σ τ : State} (w : WellFormed p σ) where
+  -- no train is where it was not
+  trains-fewer : ((x : ℕ) → (trainAt τ x ≡ noTrain) ⊎ (trainAt τ x ≡ trainAt σ x)) → Trains p τ
+  trains-fewer f = record {
+    once = λ x y t e. go x y t e (f x) (f y);
+    end = λ x h. elim (f x) [ inl z ↦ z | inr z ↦ z ∙ w .trainsEnd x h ];
   }
-
-  formed-cancel : (τ : State) (r : ℕ) → AfterCancel p σ τ r → WellFormed p τ
-  formed-cancel τ r A = formed-less τ
-      (λ u v t e. W .once u v (λ z. t (A .trains u ∙ z)) (sym (A .trains u) ∙ e ∙ A .trains v))
-      (λ u h. A .trains u ∙ W .trainsEnd u h)
-      (A .lies)
-      (λ k q m. elim (same? k r) [ inl z ↦ absurd (A .holds q (subst (λ j. Holds τ j q) z m)) | inr d ↦ sym (A .otherHolds k q d) ∙ m ])
-      (λ s. elim (same? s (routeOf p r .start)) [ inl z ↦ inl (ap (shownAt τ) z ∙ A .signal) | inr d ↦ inr (A .otherSignals s d) ])
-
-  formed-entry : (τ : State) (train u : ℕ) → u < length (p .tracks) → (InPlan p σ train → ⊥) → AfterEntry σ τ train u → WellFormed p τ
-  formed-entry τ train u h n A = formed-less τ once
-      (λ x b. A .otherTrains x (λ z. omega arith) ∙ W .trainsEnd x b)
-      (A .lies)
-      (λ k q m. sym (A .holds k q) ∙ m)
-      (λ s. inr (A .signals s))
     where
-      new : (x y : ℕ) → x ≡ u → y ≢ u → trainAt τ x ≡ trainAt τ y → ⊥
-      new x y a b e = n (y, sym (A .otherTrains y b) ∙ sym e ∙ ap (trainAt τ) a ∙ A .stands)
+      go : (x y : ℕ) → HasTrain τ x → trainAt τ x ≡ trainAt τ y → (trainAt τ x ≡ noTrain) ⊎ (trainAt τ x ≡ trainAt σ x) → (trainAt τ y ≡ noTrain) ⊎ (trainAt τ y ≡ trainAt σ y) → x ≡ y
+      go x y t e (inl a) b = absurd (t a)
+      go x y t e (inr a) (inl b) = absurd (t (e ∙ b))
+      go x y t e (inr a) (inr b) = w .once x y (λ z. t (a ∙ z)) (sym a ∙ e ∙ b)
 
-      once : (x y : ℕ) → HasTrain τ x → trainAt τ x ≡ trainAt τ y → x ≡ y
-      once x y t e = elim (same? x u) [
-        | inl a ↦ (elim (same? y u) [ inl b ↦ a ∙ sym b | inr b ↦ absurd (new x y a b e) ])
-        | inr a ↦ (elim (same? y u) [
-          | inl b ↦ absurd (new y x b a (sym e))
-          | inr b ↦ W .once x y (λ z. t (A .otherTrains x a ∙ z)) (sym (A .otherTrains x a) ∙ e ∙ A .otherTrains y b)
+  -- one train came to v, which no other track of τ has
+  trains-one : (train v : ℕ) → v < length (p .tracks) → trainAt τ v ≡ train
+      → ((x : ℕ) → x ≢ v → HasTrain τ x → (trainAt τ x ≡ trainAt σ x) × (trainAt σ x ≢ train))
+      → ((x : ℕ) → x ≢ v → trainAt σ x ≡ noTrain → trainAt τ x ≡ noTrain) → Trains p τ
+  trains-one train v hv at others empty = record {
+    once = λ x y t e. go x y t e (same? x v) (same? y v);
+    end = λ x h. empty x (λ z. let k = hv in omega arith) (w .trainsEnd x h);
+  }
+    where
+      go : (x y : ℕ) → HasTrain τ x → trainAt τ x ≡ trainAt τ y → (x ≡ v) ⊎ (x ≢ v) → (y ≡ v) ⊎ (y ≢ v) → x ≡ y
+      go x y t e (inl a) (inl b) = a ∙ sym b
+      go x y t e (inl a) (inr b) = let (same, new) = others y b (λ z. t (e ∙ z)) in absurd (new (sym same ∙ sym e ∙ ap (trainAt τ) a ∙ at))
+      go x y t e (inr a) (inl b) = let (same, new) = others x a t in absurd (new (sym same ∙ e ∙ ap (trainAt τ) b ∙ at))
+      go x y t e (inr a) (inr b) =
+          let c = (others x a t) .0 in
+          let d = (others y b (λ z. t (e ∙ z))) .0 in
+          w .once x y (λ z. t (c ∙ z)) (sym c ∙ e ∙ d)
+
+  lies-same : SameLies σ τ → Lies p τ
+  lies-same f = record { point = λ x e. w .reversePoint x (sym (f x) ∙ e); two = λ x. rw (f x) (w .lie x) }
+
+  holdings-fewer : ((r x : ℕ) → Holds τ r x → Holds σ r x) → Holdings p τ
+  holdings-fewer f = record { routes = λ r x e h. w .routesEnd r x e (f r x h); point = λ r x h. w .heldPoint r x (f r x h) }
+
+  signals-fewer : ((s : ℕ) → (shownAt τ s ≡ red) ⊎ (shownAt τ s ≡ shownAt σ s)) → Signals p τ
+  signals-fewer f = record { green = λ s r g. elim (f s) [ inl z ↦ green-red _ r g z | inr z ↦ w .green s r (sym z ∙ g) ] }
+
+  module _ (reads : Readable p) (r : ℕ) (known : r < length (p .routes)) (g : AfterGrant p σ τ r) where
+    grant-lies : Lies p τ
+    grant-lies = record {
+      point = λ x e. elim (listed? p r x) [
+        | inl l ↦ listed-point p reads r known x l
+        | inr l ↦ w .reversePoint x (sym (g .otherLies x l) ∙ e)
+      ];
+      two = λ x. elim (in? x (routeOf p r .reverse)) [
+        | inl a ↦ inr (g .reverse x a)
+        | inr a ↦ (elim (in? x (routeOf p r .normal)) [
+          | inl b ↦ inl (g .normal x b a)
+          | inr b ↦ rw (g .otherLies x (neither x a b)) (w .lie x)
         ])
-      ]
+      ];
+    }
+      where
+        neither : (x : ℕ) → (In x (routeOf p r .reverse) → ⊥) → (In x (routeOf p r .normal) → ⊥) → Listed p r x → ⊥
+        neither x a b (inl n) = b n
+        neither x a b (inr n) = a n
 
-  red-or : (τ : State) (u : ℕ) → ((s : ℕ) → StandsAt p u s → shownAt τ s ≡ red) → ((s : ℕ) → (StandsAt p u s → ⊥) → shownAt τ s ≡ shownAt σ s)
-      → (s : ℕ) → (shownAt τ s ≡ red) ⊎ (shownAt τ s ≡ shownAt σ s)
-  red-or τ u here other s = elim (below? s (length (p .signals))) [
-    | inl h ↦ (elim (same? (homeOf p s) u) [ inl z ↦ inl (here s (h, z)) | inr d ↦ inr (other s (λ w. d (w .1))) ])
-    | inr h ↦ inr (other s (λ w. let b = w .0 in omega arith))
-  ]
+    grant-holdings : Holdings p τ
+    grant-holdings = record {
+      routes = λ k x e h. elim (grant-holds g k x h) [ inl z ↦ (let q = z .0 in omega arith) | inr z ↦ w .routesEnd k x e (z .1) ];
+      point = λ k x h. elim (grant-holds g k x h) [ inl z ↦ listed-point p reads r known x (z .1) | inr z ↦ w .heldPoint k x (z .1) ];
+    }
 
-  formed-move : (τ : State) (train u v : ℕ) → train ≢ noTrain → FrontAt p σ train u → v < length (p .tracks) → AfterMove p σ τ train u v → WellFormed p τ
-  formed-move τ train u v t f h A = formed-less τ once
-      (λ x b. A .otherTrains x (λ z. let c = train-below u (λ w. t (sym f ∙ w)) in omega arith) (λ z. omega arith) ∙ W .trainsEnd x b)
-      (A .lies)
-      (λ k q m. sym (A .otherHolds k q (λ w. A .holds k q w m)) ∙ m)
-      (red-or τ u (A .signal) (A .otherSignals))
-    where
-      -- a track with a train was not left
-      kept : (x : ℕ) → HasTrain τ x → x ≢ u
-      kept x w z = w (ap (trainAt τ) z ∙ A .behind)
+    grant-signals : Signals p τ
+    grant-signals = record {
+      green = λ s k e. elim (grant-green g s k e) [
+        | inl z ↦ (rw (z .1) known, ap (λ j. routeOf p j .start) (z .1) ∙ sym (z .0))
+        | inr z ↦ w .green s k (z .1)
+      ];
+    }
 
-      -- the train that moved is on no other track
-      new : (x y : ℕ) → x ≡ v → y ≢ v → HasTrain τ y → trainAt τ x ≡ trainAt τ y → ⊥
-      new x y a b w e =
-          kept y w (sym (W .once u y (λ z. t (sym f ∙ z)) (f ∙ sym (A .stands) ∙ ap (trainAt τ) (sym a) ∙ e ∙ A .otherTrains y (kept y w) b)))
+-- A step.
+deed-stays : {p : Plan} (σ τ : State) → Readable p → WellFormed p σ → (deed : Deed) → Doing p σ deed → FollowsDeed p σ τ deed → WellFormed p τ
+deed-stays σ τ reads w (Granted r) t f =
+    let known = t .known in
+    whole τ reads (trains-fewer w (λ x. inr (f .trains x))) (grant-lies w reads r known f) (grant-holdings w reads r known f) (grant-signals w reads r known f)
+deed-stays σ τ reads w (Cancelled r) t f =
+    whole τ reads (trains-fewer w (λ x. inr (f .trains x))) (lies-same w (f .lies)) (holdings-fewer w (λ k x h. (cancel-holds f k x h) .1))
+    (signals-fewer w (λ s. elim (cancel-signal f s) [ inl z ↦ inl z | inr z ↦ inr (z .1) ]))
+deed-stays {p} σ τ reads w (Entered train u) t f =
+    whole τ reads
+    (trains-one w train u (entered-below p reads σ t) (f .stands) (λ x d h. (f .otherTrains x d, λ z. t .entry .new (x, z))) (λ x d z. f .otherTrains x d ∙ z))
+    (lies-same w (f .lies)) (holdings-fewer w (λ k x h. sym (f .holds k x) ∙ h)) (signals-fewer w (λ s. inr (f .signals s)))
+deed-stays σ τ reads w (Left train u) t f =
+    whole τ reads (trains-fewer w (leave-trains f)) (lies-same w (f .lies)) (holdings-fewer w (λ k x h. sym (f .holds k x) ∙ h)) (signals-fewer w (leave-signal f))
+deed-stays {p} σ τ reads w (Moved train u v) t f =
+    whole τ reads (trains-one w train v (moved-below p reads σ t) (f .stands) others (move-empty f))
+    (lies-same w (f .lies)) (holdings-fewer w (λ k x h. (move-holds f k x h) .1))
+    (signals-fewer w (λ s. elim (move-signal f s) [ inl z ↦ inl z | inr z ↦ inr (z .1) ]))
+  where
+    others : (x : ℕ) → x ≢ v → HasTrain τ x → (trainAt τ x ≡ trainAt σ x) × (trainAt σ x ≢ train)
+    others x d h = let (off, same) = move-from f x h d in (same, λ z. off (sym (w .once u x (stood p reads σ (t .step .front)) (t .step .front .at ∙ sym z))))
 
-      once : (x y : ℕ) → HasTrain τ x → trainAt τ x ≡ trainAt τ y → x ≡ y
-      once x y w e =
-          let w′ : HasTrain τ y = λ z. w (e ∙ z) in
-          elim (same? x v) [
-            | inl a ↦ (elim (same? y v) [ inl b ↦ a ∙ sym b | inr b ↦ absurd (new x y a b w′ e) ])
-            | inr a ↦ (elim (same? y v) [
-              | inl b ↦ absurd (new y x b a w (sym e))
-              | inr b ↦ (let i = A .otherTrains x (kept x w) a in W .once x y (λ z. w (i ∙ z)) (sym i ∙ e ∙ A .otherTrains y (kept y w′) b))
-            ])
-          ]
+pub stays : {p : Plan} (σ τ : State) → Readable p → WellFormed p σ → (a : Answer) → Told p σ a → Follows p σ τ a → WellFormed p τ
+stays σ τ reads w (Refused refusal) t f = rw f w
+stays σ τ reads w (Accident harm) t f = rw f w
+stays σ τ reads w (Done deed) t f = deed-stays σ τ reads w deed t f
 
-  formed-leaving : (τ : State) (u : ℕ) → AfterLeaving p σ τ u → WellFormed p τ
-  formed-leaving τ u A = formed-less τ
-      (λ x y w e.
-      let a = A .otherTrains x (λ z. w (ap (trainAt τ) z ∙ A .behind)) in
-      let b = A .otherTrains y (λ z. w (e ∙ ap (trainAt τ) z ∙ A .behind)) in
-      W .once x y (λ z. w (a ∙ z)) (sym a ∙ e ∙ b))
-      (λ x b. elim (same? x u) [ inl z ↦ ap (trainAt τ) z ∙ A .behind | inr d ↦ A .otherTrains x d ∙ W .trainsEnd x b ])
-      (A .lies)
-      (λ k q m. sym (A .holds k q) ∙ m)
-      (red-or τ u (A .signal) (A .otherSignals))
+-- The definition of the state after an answer says what follows from it.
+module _ (p : Plan) (reads : Readable p) (σ : State) where
+  deed-follows : (deed : Deed) → Doing p σ deed → FollowsDeed p σ (afterDeed p σ deed) deed
+  deed-follows (Granted r) t = after-grant p reads σ (t .formed) r (t .known)
+  deed-follows (Cancelled r) t = after-cancel p reads σ (t .formed) r (t .known)
+  deed-follows (Entered train u) t = after-entry p reads σ (t .entry .formed) train u (entered-below p reads σ t)
+  deed-follows (Moved train u v) t = after-move p reads σ (t .step .front .formed) train u v (moved-below p reads σ t) (moved-apart p reads σ t)
+  deed-follows (Left train u) t = after-leaving p reads σ (t .formed) train u
 
-  formed-grant : Readable p → (τ : State) (r : ℕ) → r < length (p .routes) → AfterGrant p σ τ r → WellFormed p τ
-  formed-grant R τ r k A = record {
-    once = λ u v t e. W .once u v (λ z. t (A .trains u ∙ z)) (sym (A .trains u) ∙ e ∙ A .trains v);
-    trainsEnd = λ u h. A .trains u ∙ W .trainsEnd u h;
-    liesEnd = λ q h. A .otherLies q (far q h) ∙ W .liesEnd q h;
-    holdsEnd = λ j q h m. W .holdsEnd j q h (sym (A .otherHolds j q (inr (far q h))) ∙ m);
-    signalsEnd = λ s h. A .otherSignals s (λ z. let b = start-below p R r k in omega arith) ∙ W .signalsEnd s h;
-    routesEnd = λ j q h m. W .routesEnd j q h (sym (A .otherHolds j q (inl (λ z. omega arith))) ∙ m);
-    heldPoint = λ j q m. elim (listed? q) [ inl l ↦ listed-point p R r k q l | inr n ↦ W .heldPoint j q (sym (A .otherHolds j q (inr n)) ∙ m) ];
-    reversePoint = λ q z. elim (listed? q) [ inl l ↦ listed-point p R r k q l | inr n ↦ W .reversePoint q (sym (A .otherLies q n) ∙ z) ];
-    green = λ s j z. green s j z (same? s (routeOf p r .start));
-    lie = λ q. lie q (listed? q) (split (has q (routeOf p r .reverse)));
-  }
-    where
-      far : (q : ℕ) → length (p .tracks) ≤ q → Listed p r q → ⊥
-      far q h l = let b = listed-below p R r k q l in omega arith
+  follows : (a : Answer) → Told p σ a → Follows p σ (after p σ a) a
+  unfolding after
+  follows (Refused refusal) t = refl
+  follows (Accident harm) t = refl
+  follows (Done deed) t = deed-follows deed t
 
-      listed? : (q : ℕ) → Listed p r q ⊎ (Listed p r q → ⊥)
-      listed? q = elim (split (listed (routeOf p r .normal) (routeOf p r .reverse) q)) [
-        | inl l ↦ inl (listed-says (routeOf p r .normal) (routeOf p r .reverse) q l)
-        | inr l ↦ inr (λ w. clash (listed-hears (routeOf p r .normal) (routeOf p r .reverse) q w) l)
-      ]
+  pub next-follows : (event : Event) → Follows p σ (nextState p σ event) (answer p σ event)
+  unfolding nextState
+  next-follows event = follows (answer p σ event) (told p reads σ (given p reads σ event))
 
-      green : (s j : ℕ) → shownAt τ s ≡ greenFor j → (s ≡ routeOf p r .start) ⊎ (s ≢ routeOf p r .start) → (j < length (p .routes)) × (routeOf p j .start ≡ s)
-      green s j z (inl e) =
-          let i : greenFor r ≡ greenFor j = sym (A .signal) ∙ ap (shownAt τ) (sym e) ∙ z in
-          let o : r ≡ j = omega arith in
-          (omega arith, ap (λ (x : ℕ). routeOf p x .start) (sym o) ∙ sym e)
-      green s j z (inr d) = W .green s j (sym (A .otherSignals s d) ∙ z)
+  pub next-formed : (event : Event) → WellFormed p σ → WellFormed p (nextState p σ event)
+  next-formed event w = stays σ (nextState p σ event) reads w (answer p σ event) (told p reads σ (given p reads σ event)) (next-follows event)
 
-      lie : (q : ℕ) → Listed p r q ⊎ (Listed p r q → ⊥) → (has q (routeOf p r .reverse) ≡ true) ⊎ (has q (routeOf p r .reverse) ≡ false) → (lieAt τ q ≡ normalLie) ⊎ (lieAt τ q ≡ reverseLie)
-      lie q l (inl m) = inr (A .reverse q (has-in q (routeOf p r .reverse) m))
-      lie q (inl (inl l)) (inr m) = inl (A .normal q l (λ w. clash (in-has q (routeOf p r .reverse) w) m))
-      lie q (inl (inr l)) (inr m) = clash (in-has q (routeOf p r .reverse) l) m
-      lie q (inr n) (inr m) = elim (W .lie q) [ inl z ↦ inl (A .otherLies q n ∙ z) | inr z ↦ inr (A .otherLies q n ∙ z) ]
+-- Fresh.
 
-module _ (p : Plan) (R : Readable p) (σ : State) where
-  same-state : {τ : State} → τ ≡ σ → WellFormed p σ → WellFormed p τ
-  same-state e W = rw e W
+fresh-cell : (n i : ℕ) → getD (replicate {A = ℕ} n 0) i 0 ≡ 0
+fresh-cell zero i = refl
+fresh-cell (suc n) zero = refl
+fresh-cell (suc n) (suc i) = fresh-cell n i
 
-  pub next-below : (u v : ℕ) → u < length (p .tracks) → (Is (isExit p u) → ⊥) → Next p σ u v → v < length (p .tracks)
-  next-below u v h x (inl w) = rw (← w .1) (out-below p R u false h x)
-  next-below u v h x (inr w) = rw (← w .1) (out-below p R u true h x)
+pub no-train : (u : ℕ) → trainAt fresh u ≡ noTrain
+unfolding trainAt fresh
+no-train u = fresh-cell mostTracks u
 
-  row-kept : {e : Event} {a : Answer} → Given p σ e a → WellFormed p σ → WellFormed p (after p σ a)
-  row-kept (row10 n) W = same-state (after-refusal p σ _) W
-  row-kept (row11 F n) W = same-state (after-refusal p σ _) W
-  row-kept (row12 F k n) W = same-state (after-refusal p σ _) W
-  row-kept (row13 F k c l) W = same-state (after-refusal p σ _) W
-  row-kept (row14 F k c b l) W = same-state (after-refusal p σ _) W
-  row-kept (row42 F k c b h l) W = same-state (after-accident p σ _) W
-  row-kept (granted {r} F k c b h d) W = formed-grant p σ W R _ r k (after-grant p R σ W r k)
-  row-kept (row15 F k n) W = same-state (after-refusal p σ _) W
-  row-kept (row16 F k g t) W = same-state (after-refusal p σ _) W
-  row-kept (cancelled {r} F k g n) W = formed-cancel p σ W _ r (after-cancel p R σ W r k)
-  row-kept (row17 F k i) W = same-state (after-refusal p σ _) W
-  row-kept (entry13 F k i l) W = same-state (after-refusal p σ _) W
-  row-kept (entry40 F k i b t) W = same-state (after-accident p σ _) W
-  row-kept (entered {e} {train} F k i b n) W =
-      let h = entry-below p R e (k .0) in formed-entry p σ W _ train (entryOf p e .track) h i (after-entry p R σ W train (entryOf p e .track) h)
-  row-kept (row18 F k n) W = same-state (after-refusal p σ _) W
-  row-kept (row19 F k f r) W = same-state (after-refusal p σ _) W
-  row-kept (left {train} {u} F k f n x) W = formed-leaving p σ W _ u (after-leaving p R σ W train u)
-  row-kept (row40 F k f n x w t) W = same-state (after-accident p σ _) W
-  row-kept (row41 F k f n x w t h) W = same-state (after-accident p σ _) W
-  row-kept (moved {train} {u} {v} F k f n x w t h) W =
-      let b = next-below u v (train-below p σ W u (λ z. k (sym f ∙ z))) x w in
-      formed-move p σ W _ train u v k f b (after-move p R σ W train u v b (λ z. t (λ y. k (sym f ∙ ap (trainAt σ) z ∙ y))))
+all-normal : (x : ℕ) → lieAt fresh x ≡ normalLie
+unfolding lieAt fresh
+all-normal x = fresh-cell mostTracks x
 
-  pub stays-formed : (e : Event) → WellFormed p σ → WellFormed p (after p σ (answer p σ e))
-  stays-formed e W = row-kept (given p R σ e) W
+pub no-hold : (r x : ℕ) → Holds fresh r x → ⊥
+unfolding heldBy fresh
+no-hold r x h = clash h (rw (fresh-cell mostTracks x) (member-empty r))
+
+pub all-red : (s : ℕ) → shownAt fresh s ≡ red
+unfolding shownAt fresh
+all-red s = fresh-cell mostSignals s
+
+pub fresh-formed : (p : Plan) → Readable p → WellFormed p fresh
+fresh-formed p reads = whole fresh reads
+    (record { once = λ u v t e. absurd (t (no-train u)); end = λ u h. no-train u })
+    (record { point = λ x e. (let z = all-normal x in absurd (omega arith)); two = λ x. inl (all-normal x) })
+    (record { routes = λ r x e h. no-hold r x h; point = λ r x h. absurd (no-hold r x h) })
+    (record { green = λ s r g. green-red _ r g (all-red s) })

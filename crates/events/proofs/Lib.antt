@@ -1,6 +1,9 @@
 pub mod Bytes
 pub mod Facts
 pub mod Reflect
+pub mod Told
 pub mod Given
+pub mod Cases
 pub mod Views
+pub mod Follow
 pub mod Kept

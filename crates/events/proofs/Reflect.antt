@@ -1,28 +1,28 @@
 -- Each test says what its sentence says.
 use mathlib.Core.Path.{_≡_, refl, sym, ap, _∙_}
-use mathlib.Core.Bool.{Bool, true, false, not, cond, _&&_, _||_}
-use mathlib.Core.Logic.{_≢_, _⊎_, inl, inr}
+use mathlib.Core.Bool.{Bool, true, false, not}
+use mathlib.Core.Logic.{_≢_, _⊎_, inl, inr, _↔_}
 use mathlib.Core.List.{List}
-use Prim.Native.Nat.{ℕ, suc, _<_, _≤_}
+use Prim.Native.Nat.{ℕ, suc, _<_}
 use native.Mathlib.Omega.{arith}
 use lib.ListN.{length, getD}
-use lib.Dec.{eqb, ltb}
+use lib.Dec.{eqb}
 use borrow.Author.Tests.{eqb-true, eqb-false, eq-eqb, ne-eqb}
 use Rattle.laws.specs.declared.Found.{Found}
 use Rattle.laws.specs.declared.Found.the-variants.{At, Nothing}
-use Rattle.laws.specs.Tests.{Is, split, never, clash, below?, same?, and-l, and-r, and-i, or-e, or-l, or-r, not-t, not-f, not-i, cond-t, cond-f}
+use Rattle.laws.specs.Tests.{Is, split, never, clash, below?, and-l, and-r, and-i, or-e, or-l, or-r, not-t, not-i, cond-t, cond-f}
 use Rattle.laws.specs.Lists.{In, has, has-in, in-has}
-use Rattle.laws.specs.Search.{lowest, Lowest, lowest-at, lowest-none, at-lowest, none-lowest}
-use Rattle.laws.specs.Sets.{member}
-use Rattle.plan.specs.Records.{Plan, homeOf, routeOf, entryOf}
+use Rattle.laws.specs.Answers.{None, LowestSuch}
+use Rattle.laws.specs.Search.{lowest, lowest-at, lowest-none, at-lowest}
+use Rattle.plan.specs.Records.{Plan, homeOf, routeOf}
 use Rattle.plan.specs.Layout.{legged, out, leg, signalAt}
 use Rattle.plan.specs.File.{Readable}
 use Rattle.state.specs.declared.State.{State}
 use Rattle.state.specs.Holds.{empty}
-use Rattle.state.specs.State.{noTrain, normalLie, reverseLie, red, greenFor, trainAt, lieAt, heldBy, shownAt, HasTrain, Holds, WellFormed}
+use Rattle.state.specs.State.{noTrain, normalLie, reverseLie, red, greenFor, trainAt, lieAt, heldBy, shownAt, HasTrain, WellFormed}
 use Rattle.state.proofs.Holds.{some-member, member-some}
 use Rattle.events.specs.Decide.{hasTrain, isRed, isGreen, isReverse, busy, listed, heldListed, lieAfter, derails, stands, frontOf, inPlan, isFound, ifRed, redAt, wayOut, runsThrough}
-use Rattle.events.specs.Meaning.{None, LowestSuch, Listed, StandsAt, Busy, HeldListed, OtherLie, Derails, FrontAt, InPlan, RedAt, Next, RunsThrough}
+use Rattle.events.specs.Meaning.{Listed, StandsAt, Busy, HeldListed, OtherLie, Derails, FrontAt, InPlan, RedAt, Next, RunsThrough}
 use Rattle.events.proofs.Facts.{one-signal}
 
 -- what is not so fails the test
@@ -50,34 +50,19 @@ module _ {n : ℕ} {f : ℕ → Bool} {Such : ℕ → Type 0} (t : Tells n f Suc
     first = λ y h. fails (f y) (t .says y) (l .noLower y h);
   })
 
-  pub none-search : None Such → lowest n f ≡ Nothing
-  none-search h = none-lowest n f (λ x k. fails (f x) (t .says x) (h x))
-
 -- Cells.
 module _ (σ : State) where
-  pub train-says : (u : ℕ) → Is (hasTrain (σ .trains) u) → HasTrain σ u
+  pub train-tests : (u : ℕ) → Is (hasTrain (σ .trains) u) ↔ HasTrain σ u
   unfolding hasTrain trainAt
-  train-says u e = eqb-false (getD (σ .trains) u 0) 0 (not-t _ e)
+  train-tests u = (λ e. eqb-false (getD (σ .trains) u 0) 0 (not-t _ e), λ h. not-i _ (ne-eqb (getD (σ .trains) u 0) 0 h))
 
-  pub train-hears : (u : ℕ) → HasTrain σ u → Is (hasTrain (σ .trains) u)
-  unfolding hasTrain trainAt
-  train-hears u h = not-i _ (ne-eqb (getD (σ .trains) u 0) 0 h)
-
-  pub red-says : (s : ℕ) → Is (isRed (σ .signals) s) → shownAt σ s ≡ red
+  pub red-tests : (s : ℕ) → Is (isRed (σ .signals) s) ↔ (shownAt σ s ≡ red)
   unfolding isRed shownAt
-  red-says s e = eqb-true (getD (σ .signals) s 0) 0 e
+  red-tests s = (eqb-true (getD (σ .signals) s 0) 0, eq-eqb (getD (σ .signals) s 0) 0)
 
-  pub red-hears : (s : ℕ) → shownAt σ s ≡ red → Is (isRed (σ .signals) s)
-  unfolding isRed shownAt
-  red-hears s e = eq-eqb (getD (σ .signals) s 0) 0 e
-
-  pub green-says : (s r : ℕ) → Is (isGreen (σ .signals) s r) → shownAt σ s ≡ greenFor r
+  pub green-tests : (s r : ℕ) → Is (isGreen (σ .signals) s r) ↔ (shownAt σ s ≡ greenFor r)
   unfolding isGreen shownAt
-  green-says s r e = eqb-true (getD (σ .signals) s 0) (suc r) e
-
-  pub green-hears : (s r : ℕ) → shownAt σ s ≡ greenFor r → Is (isGreen (σ .signals) s r)
-  unfolding isGreen shownAt
-  green-hears s r e = eq-eqb (getD (σ .signals) s 0) (suc r) e
+  green-tests s r = (eqb-true (getD (σ .signals) s 0) (suc r), eq-eqb (getD (σ .signals) s 0) (suc r))
 
   pub reverse-true : (q : ℕ) → lieAt σ q ≡ reverseLie → isReverse (σ .lies) q ≡ true
   unfolding isReverse lieAt
@@ -101,8 +86,8 @@ module _ (p : Plan) (σ : State) where
   pub busy-tells : (clear : List ℕ) (n : ℕ) → ((u : ℕ) → In u clear → u < n) → Tells n (busy clear (σ .trains)) (Busy p σ clear)
   unfolding busy
   busy-tells clear n h = record {
-    says = λ u e. (has-in u clear (and-r (hasTrain (σ .trains) u) (has u clear) e), train-says σ u (and-l (hasTrain (σ .trains) u) (has u clear) e));
-    hears = λ u s. and-i _ _ (train-hears σ u (s .1)) (in-has u clear (s .0));
+    says = λ u e. (has-in u clear (and-r (hasTrain (σ .trains) u) (has u clear) e), train-tests σ u .0 (and-l (hasTrain (σ .trains) u) (has u clear) e));
+    hears = λ u s. and-i _ _ (train-tests σ u .1 (s .1)) (in-has u clear (s .0));
     inside = λ u s. h u (s .0);
   }
 
@@ -143,8 +128,8 @@ module _ (p : Plan) (σ : State) where
     pub derails-tells : Tells n (derails (routeOf p r .normal) (routeOf p r .reverse) (σ .trains) (σ .lies)) (Derails p σ r)
     unfolding derails lieAt
     derails-tells = record {
-      says = λ q e. (train-says σ q (and-l (hasTrain (σ .trains) q) (turns q) e), other-says q (eqb-false _ _ (not-t _ (and-r (hasTrain (σ .trains) q) (turns q) e))));
-      hears = λ q s. and-i _ _ (train-hears σ q (s .0)) (not-i _ (ne-eqb _ _ (other-hears q (s .1))));
+      says = λ q e. (train-tests σ q .0 (and-l (hasTrain (σ .trains) q) (turns q) e), other-says q (eqb-false _ _ (not-t _ (and-r (hasTrain (σ .trains) q) (turns q) e))));
+      hears = λ q s. and-i _ _ (train-tests σ q .1 (s .0)) (not-i _ (ne-eqb _ _ (other-hears q (s .1))));
       inside = λ q s. h q (other-listed q (s .1));
     }
 
@@ -166,15 +151,7 @@ module _ (p : Plan) (σ : State) where
     unfolding frontOf
     at-front e = search-at front-tells e .such
 
-    pub front-none : (InPlan p σ train → ⊥) → frontOf p (σ .trains) train ≡ Nothing
-    unfolding frontOf
-    front-none h = none-search front-tells (λ u s. h (u, s))
-
-    pub none-front : frontOf p (σ .trains) train ≡ Nothing → InPlan p σ train → ⊥
-    unfolding frontOf
-    none-front e w = search-none front-tells e (w .0) (w .1)
-
-    pub in-says : Is (inPlan p (σ .trains) train) → InPlan p σ train
+    in-says : Is (inPlan p (σ .trains) train) → InPlan p σ train
     unfolding inPlan
     in-says e = go (frontOf p (σ .trains) train) refl e
       where
@@ -182,9 +159,12 @@ module _ (p : Plan) (σ : State) where
         go (At u) q i = (u, at-front q)
         go Nothing q i = clash {b = false} i refl
 
-    pub in-hears : InPlan p σ train → Is (inPlan p (σ .trains) train)
+    in-hears : InPlan p σ train → Is (inPlan p (σ .trains) train)
     unfolding inPlan
     in-hears w = rw (front-at (w .1))
+
+    pub in-tests : Is (inPlan p (σ .trains) train) ↔ InPlan p σ train
+    in-tests = (in-says, in-hears)
 
   -- the red signal at a track's end
   home-at : (u s : ℕ) → signalAt p u ≡ At s → StandsAt p u s
@@ -211,24 +191,17 @@ module _ (p : Plan) (σ : State) where
         go (At t) q z = elim (split (isRed (σ .signals) t)) [
           | inl y ↦ (let w : At t ≡ At s = sym (cond-t (At t) Nothing y) ∙ z in
               let x : t ≡ s = cc in
-              rw (← x) (home-at u t q, red-says σ t y))
+              rw (← x) (home-at u t q, red-tests σ t .0 y))
           | inr n ↦ never (cc (cond-f (At t) Nothing n))
         ]
         go Nothing q z = never (cc)
 
     pub at-red : {s : ℕ} → RedAt p σ u s → redAt p (σ .signals) u ≡ At s
     unfolding redAt
-    at-red {s} w = rw (at-home s (w .0)) (cond-t (At s) Nothing (red-hears σ s (w .1)))
+    at-red {s} w = rw (at-home s (w .0)) (cond-t (At s) Nothing (red-tests σ s .1 (w .1)))
 
     pub red-none : redAt p (σ .signals) u ≡ Nothing → None (RedAt p σ u)
     red-none e s w = never (cc (at-red w))
-
-    pub none-red : None (RedAt p σ u) → redAt p (σ .signals) u ≡ Nothing
-    none-red h = go (redAt p (σ .signals) u) refl
-      where
-        go : (o : Found) → redAt p (σ .signals) u ≡ o → o ≡ Nothing
-        go (At s) e = absurd (h s (red-at e))
-        go Nothing e = refl
 
   -- the way out, and the wrong leg
   pub next-way : WellFormed p σ → (u : ℕ) → Next p σ u (wayOut p (σ .lies) u)
@@ -243,7 +216,7 @@ module _ (p : Plan) (σ : State) where
   way-next u v (inl w) = ap (out p u) (reverse-false σ u (w .0)) ∙ w .1
   way-next u v (inr w) = ap (out p u) (reverse-true σ u (w .0)) ∙ w .1
 
-  pub through-says : WellFormed p σ → (u v : ℕ) → Is (runsThrough p (σ .lies) u v) → RunsThrough p σ u v
+  through-says : WellFormed p σ → (u v : ℕ) → Is (runsThrough p (σ .lies) u v) → RunsThrough p σ u v
   unfolding runsThrough
   through-says W u v e =
       let d = eqb-false _ _ (not-t _ (and-r (legged p v) (not (eqb (leg p v (isReverse (σ .lies) v)) u)) e)) in (
@@ -254,10 +227,13 @@ module _ (p : Plan) (σ : State) where
         ],
       )
 
-  pub through-hears : (u v : ℕ) → RunsThrough p σ u v → Is (runsThrough p (σ .lies) u v)
+  through-hears : (u v : ℕ) → RunsThrough p σ u v → Is (runsThrough p (σ .lies) u v)
   unfolding runsThrough
   through-hears u v w = and-i _ _ (w .0) (not-i _ (ne-eqb _ _ (other (w .1))))
     where
       other : ((lieAt σ v ≡ normalLie) × (leg p v false ≢ u)) ⊎ ((lieAt σ v ≡ reverseLie) × (leg p v true ≢ u)) → leg p v (isReverse (σ .lies) v) ≢ u
       other (inl s) q = s .1 (ap (leg p v) (sym (reverse-false σ v (s .0))) ∙ q)
       other (inr s) q = s .1 (ap (leg p v) (sym (reverse-true σ v (s .0))) ∙ q)
+
+  pub through-tests : WellFormed p σ → (u v : ℕ) → Is (runsThrough p (σ .lies) u v) ↔ RunsThrough p σ u v
+  through-tests W u v = (through-says W u v, through-hears u v)

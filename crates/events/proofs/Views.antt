@@ -1,36 +1,35 @@
 -- What the state shows after each answer, cell by cell.
 use mathlib.Core.Path.{_≡_, refl, sym, ap, _∙_}
-use mathlib.Core.Bool.{Bool, true, false, not, cond, _&&_}
+use mathlib.Core.Bool.{Bool, true, false, cond}
 use mathlib.Core.Logic.{_≢_, _⊎_, inl, inr}
-use mathlib.Core.List.{List, [], _∷_}
-use Prim.Native.Nat.{ℕ, zero, suc, _+_, _<_, _≤_}
+use mathlib.Core.List.{List}
+use Prim.Native.Nat.{ℕ, zero, suc, _<_, _≤_}
 use native.Mathlib.Omega.{arith}
-use native.Mathlib.Numerals.{add-one}
 use lib.ListN.{length, getD}
-use lib.Dec.{eqb, ltb}
-use borrow.Author.Tests.{eqb-true, eqb-false, eq-eqb, ne-eqb, lt-ltb, le-ltb, ltb-true}
-use Rattle.laws.specs.Tests.{Is, split, clash, below?, same?, and-l, and-r, and-i, cond-t, cond-f}
-use Rattle.laws.specs.Lists.{In, has, has-in, in-has, anyOf, anyOf-at, anyOf-any}
+use lib.Dec.{eqb}
+use borrow.Author.Tests.{eq-eqb, ne-eqb}
+use Rattle.laws.specs.Tests.{Is, split, clash, below?, same?, cond-t, cond-f}
+use Rattle.laws.specs.Lists.{has, has-in, in-has}
 use Rattle.laws.specs.Tables.{tab, getD-tab, length-tab}
 use Rattle.laws.specs.Sets.{member, excluding, member-excluding, member-excluding-other, excluding-le}
-use Rattle.plan.specs.declared.Release.{Release}
 use Rattle.plan.specs.Limits.{mostTracks, mostSignals}
-use Rattle.plan.specs.Records.{Plan, noRoute, homeOf, routeOf}
+use Rattle.plan.specs.Records.{Plan, routeOf}
 use Rattle.plan.specs.File.{Readable}
 use Rattle.state.specs.declared.State.{State}
-use Rattle.state.specs.Holds.{room, adding}
-use Rattle.state.specs.State.{noTrain, normalLie, reverseLie, red, greenFor, trainAt, lieAt, heldBy, shownAt, HasTrain, Holds, WellFormed}
+use Rattle.state.specs.Holds.{adding}
+use Rattle.state.specs.State.{noTrain, red, greenFor, trainAt, lieAt, heldBy, shownAt, WellFormed}
 use Rattle.state.proofs.Holds.{only-empty, member-adding, member-adding-other}
 use Rattle.state.proofs.Formed.{getD-beyond}
 use Rattle.events.specs.declared.Refusal.{Refusal}
-use Rattle.events.specs.declared.Harm.{Harm}
-use Rattle.events.specs.declared.Answer.{Answer}
-use Rattle.events.specs.declared.Answer.the-variants.{Refused, Accident, Granted, Cancelled, Entered, Moved, Left}
+use Rattle.events.specs.declared.Deed.the-variants.{Granted, Cancelled, Entered, Moved, Left}
+use Rattle.events.specs.declared.Answer.the-variants.{Refused}
+use Rattle.events.specs.Answers.{deedArrives, deedLeaves}
 use Rattle.events.specs.Decide.{listed, lieAfter}
-use Rattle.events.specs.After.{stood, gone, newTrains, newLies, taken, dropped, releases, droppedAll, arrived, newHolds, shown, standsAt, reddened, newSignals, after}
-use Rattle.events.specs.Meaning.{Listed, StandsAt, noRelease, Releases, AfterGrant, AfterCancel, AfterEntry, AfterMove, AfterLeaving}
-use Rattle.events.proofs.Facts.{getD-none, few-tracks, few-signals, few-routes, start-below, listed-below}
+use Rattle.events.specs.After.{stood, gone, newTrains, newLies, taken, dropped, releases, droppedAll, arrived, routeHolds, givenBack, newHolds, shown, standsAt, reddened, routeSignals, redBehind, newSignals, afterDeed, after}
+use Rattle.events.specs.Meaning.{Listed, StandsAt, Releases, AfterGrant, AfterCancel, AfterEntry, AfterMove, AfterLeaving}
+use Rattle.events.proofs.Facts.{few-tracks, few-signals, few-routes, start-below, listed-below}
 use Rattle.events.proofs.Reflect.{fails, listed-says, listed-hears}
+use Rattle.events.proofs.Cases.{releases-says, releases-hears, releases-below, stands-says, stands-hears}
 
 -- A table shows its function everywhere, if that is nothing past the table's end.
 cell : (n : ℕ) (g : ℕ → ℕ) (i : ℕ) → (n ≤ i → g i ≡ 0) → getD (tab n g) i 0 ≡ g i
@@ -75,29 +74,6 @@ member-kept (suc n) f set k h = go (same? k n) (f n) refl (member-kept n f set k
     go (inr q) true z ih = member-excluding-other (droppedAll n f set) n k q ∙ ih
     go q false z ih = ih
 
--- Releases.
-module _ (p : Plan) (v q r : ℕ) where
-  abbrev names : Release → Bool
-  names release = eqb (release .track) v && eqb (release .point) q
-
-  releases-says : Is (releases p v q r) → Releases p v q r
-  unfolding releases
-  releases-says e =
-      let w = anyOf-at names (routeOf p r .releases) noRelease e in
-      let x = getD (routeOf p r .releases) (w .0) noRelease in
-      (w .0, w .1, eqb-true _ _ (and-l (eqb (x .track) v) (eqb (x .point) q) (w .2)), eqb-true _ _ (and-r (eqb (x .track) v) (eqb (x .point) q) (w .2)))
-
-  releases-hears : Releases p v q r → Is (releases p v q r)
-  unfolding releases
-  releases-hears w = anyOf-any names (routeOf p r .releases) (w .0) noRelease (w .1) (and-i _ _ (eq-eqb _ _ (w .2)) (eq-eqb _ _ (w .3)))
-
-  releases-below : Releases p v q r → r < length (p .routes)
-  unfolding routeOf
-  releases-below w = elim (below? r (length (p .routes))) [
-    | inl h ↦ h
-    | inr h ↦ (let z : w .0 < 0 = rw (getD-none (p .routes) r noRoute h) at (w .1) in absurd (omega arith))
-  ]
-
 module _ (p : Plan) (R : Readable p) (σ : State) (W : WellFormed p σ) where
   -- beyond the plan nothing is held
   none-held : (q : ℕ) → length (p .tracks) ≤ q → getD (σ .holds) q 0 ≡ 0
@@ -119,22 +95,22 @@ module _ (p : Plan) (R : Readable p) (σ : State) (W : WellFormed p σ) where
     unfolding lieAfter lieAt
     lie-kept q n = let w = unlisted q n in cond-f _ _ (w .0) ∙ cond-f _ _ (w .1)
 
-    grant-lie : (q : ℕ) → lieAt (after p σ (Granted r)) q ≡ lieAfter (routeOf p r .normal) (routeOf p r .reverse) (σ .lies) q
-    unfolding after newLies lieAt
+    grant-lie : (q : ℕ) → lieAt (afterDeed p σ (Granted r)) q ≡ lieAfter (routeOf p r .normal) (routeOf p r .reverse) (σ .lies) q
+    unfolding afterDeed newLies lieAt
     grant-lie q = cell mostTracks (lieAfter (routeOf p r .normal) (routeOf p r .reverse) (σ .lies)) q
         (λ h. lie-kept q (far q h) ∙ W .liesEnd q (let b = few-tracks p R in omega arith))
 
-    grant-holds : (q : ℕ) → getD (after p σ (Granted r) .holds) q 0 ≡ taken r (routeOf p r .normal) (routeOf p r .reverse) (σ .holds) q
-    unfolding after newHolds taken
+    grant-holds : (q : ℕ) → getD (afterDeed p σ (Granted r) .holds) q 0 ≡ taken r (routeOf p r .normal) (routeOf p r .reverse) (σ .holds) q
+    unfolding afterDeed newHolds givenBack deedArrives routeHolds taken
     grant-holds q = cell mostTracks (taken r (routeOf p r .normal) (routeOf p r .reverse) (σ .holds)) q
         (λ h. cond-f _ _ (fails (listed (routeOf p r .normal) (routeOf p r .reverse) q) (listed-says (routeOf p r .normal) (routeOf p r .reverse) q) (far q h))
         ∙ none-held q (let b = few-tracks p R in omega arith))
 
-    grant-taken : (q : ℕ) → Listed p r q → getD (after p σ (Granted r) .holds) q 0 ≡ adding (getD (σ .holds) q 0) r
+    grant-taken : (q : ℕ) → Listed p r q → getD (afterDeed p σ (Granted r) .holds) q 0 ≡ adding (getD (σ .holds) q 0) r
     unfolding taken
     grant-taken q m = grant-holds q ∙ cond-t _ _ (listed-hears (routeOf p r .normal) (routeOf p r .reverse) q m)
 
-    grant-same : (q : ℕ) → (Listed p r q → ⊥) → getD (after p σ (Granted r) .holds) q 0 ≡ getD (σ .holds) q 0
+    grant-same : (q : ℕ) → (Listed p r q → ⊥) → getD (afterDeed p σ (Granted r) .holds) q 0 ≡ getD (σ .holds) q 0
     unfolding taken
     grant-same q n =
         grant-holds q ∙ cond-f _ _ (fails (listed (routeOf p r .normal) (routeOf p r .reverse) q) (listed-says (routeOf p r .normal) (routeOf p r .reverse) q) n)
@@ -157,8 +133,8 @@ module _ (p : Plan) (R : Readable p) (σ : State) (W : WellFormed p σ) where
     unfolding shown shownAt
     shown-other colour s d = cond-f _ _ (ne-eqb s (routeOf p r .start) d)
 
-    pub after-grant : AfterGrant p σ (after p σ (Granted r)) r
-    unfolding after newTrains newSignals trainAt shownAt heldBy lieAfter
+    pub after-grant : AfterGrant p σ (afterDeed p σ (Granted r)) r
+    unfolding afterDeed newTrains newSignals redBehind deedLeaves routeSignals trainAt shownAt heldBy lieAfter
     after-grant = record {
       trains = λ u. refl;
       reverse = λ q m. grant-lie q ∙ cond-t _ _ (in-has q (routeOf p r .reverse) m);
@@ -171,7 +147,7 @@ module _ (p : Plan) (R : Readable p) (σ : State) (W : WellFormed p σ) where
     }
       where
         other : (j q : ℕ) → (j ≢ r) ⊎ (Listed p r q → ⊥) → (listed (routeOf p r .normal) (routeOf p r .reverse) q ≡ true) ⊎ (listed (routeOf p r .normal) (routeOf p r .reverse) q ≡ false)
-            → member (getD (after p σ (Granted r) .holds) q 0) j ≡ member (getD (σ .holds) q 0) j
+            → member (getD (afterDeed p σ (Granted r) .holds) q 0) j ≡ member (getD (σ .holds) q 0) j
         other j q (inl d) (inl m) =
             ap (λ (set : ℕ). member set j) (grant-taken q (listed-says (routeOf p r .normal) (routeOf p r .reverse) q m)) ∙ member-adding-other (getD (σ .holds) q 0) r j d
         other j q (inl d) (inr m) =
@@ -179,13 +155,13 @@ module _ (p : Plan) (R : Readable p) (σ : State) (W : WellFormed p σ) where
         other j q (inr n) m = ap (λ (set : ℕ). member set j) (grant-same q n)
 
     -- Cancelled.
-    cancel-holds : (q : ℕ) → getD (after p σ (Cancelled r) .holds) q 0 ≡ excluding (getD (σ .holds) q 0) r
-    unfolding after newHolds dropped
+    cancel-holds : (q : ℕ) → getD (afterDeed p σ (Cancelled r) .holds) q 0 ≡ excluding (getD (σ .holds) q 0) r
+    unfolding afterDeed newHolds givenBack deedArrives routeHolds dropped
     cancel-holds q = cell mostTracks (dropped r (σ .holds)) q
         (λ h. let z = none-held q (let b = few-tracks p R in omega arith) in let e = excluding-le (getD (σ .holds) q 0) r in omega arith)
 
-    pub after-cancel : AfterCancel p σ (after p σ (Cancelled r)) r
-    unfolding after newTrains newLies newSignals trainAt lieAt shownAt heldBy
+    pub after-cancel : AfterCancel p σ (afterDeed p σ (Cancelled r)) r
+    unfolding afterDeed newTrains newLies newSignals redBehind deedLeaves routeSignals trainAt lieAt shownAt heldBy
     after-cancel = record {
       trains = λ u. refl;
       lies = λ q. refl;
@@ -233,17 +209,6 @@ module _ (p : Plan) (R : Readable p) (σ : State) (W : WellFormed p σ) where
 
   -- the signal on the track left
   module _ (u : ℕ) where
-    stands-says : (s : ℕ) → Is (standsAt p u s) → StandsAt p u s
-    unfolding standsAt
-    stands-says s e = (
-      ltb-true s (length (p .signals)) (and-l (ltb s (length (p .signals))) (eqb (homeOf p s) u) e),
-      eqb-true (homeOf p s) u (and-r (ltb s (length (p .signals))) (eqb (homeOf p s) u) e),
-    )
-
-    stands-hears : (s : ℕ) → StandsAt p u s → Is (standsAt p u s)
-    unfolding standsAt
-    stands-hears s w = and-i _ _ (lt-ltb s (length (p .signals)) (w .0)) (eq-eqb (homeOf p s) u (w .1))
-
     red-cell : (s : ℕ) → getD (tab mostSignals (reddened p u (σ .signals))) s 0 ≡ reddened p u (σ .signals) s
     unfolding reddened shownAt
     red-cell s = cell mostSignals (reddened p u (σ .signals)) s (λ f. go (standsAt p u s) (W .signalsEnd s (let b = few-signals p R in omega arith)))
@@ -254,15 +219,15 @@ module _ (p : Plan) (R : Readable p) (σ : State) (W : WellFormed p σ) where
 
     red-here : (s : ℕ) → StandsAt p u s → getD (tab mostSignals (reddened p u (σ .signals))) s 0 ≡ red
     unfolding reddened
-    red-here s w = red-cell s ∙ cond-t _ _ (stands-hears s w)
+    red-here s w = red-cell s ∙ cond-t _ _ (stands-hears p u s w)
 
     red-other : (s : ℕ) → (StandsAt p u s → ⊥) → getD (tab mostSignals (reddened p u (σ .signals))) s 0 ≡ shownAt σ s
     unfolding reddened shownAt
-    red-other s n = red-cell s ∙ cond-f _ _ (fails (standsAt p u s) (stands-says s) n)
+    red-other s n = red-cell s ∙ cond-f _ _ (fails (standsAt p u s) (stands-says p u s) n)
 
   -- Entered.
-  pub after-entry : (train u : ℕ) → u < length (p .tracks) → AfterEntry σ (after p σ (Entered train u)) train u
-  unfolding after newTrains newLies newHolds newSignals trainAt lieAt heldBy shownAt
+  pub after-entry : (train u : ℕ) → u < length (p .tracks) → AfterEntry σ (afterDeed p σ (Entered train u)) train u
+  unfolding afterDeed newTrains newLies newHolds givenBack deedArrives routeHolds newSignals redBehind deedLeaves routeSignals trainAt lieAt heldBy shownAt
   after-entry train u h = record {
     stands = stood-here train u h;
     otherTrains = λ x d. stood-other train u h x d;
@@ -291,8 +256,8 @@ module _ (p : Plan) (R : Readable p) (σ : State) (W : WellFormed p σ) where
         ap (λ (set : ℕ). member set k) (move-holds q)
         ∙ member-kept (length (p .routes)) (releases p v q) (getD (σ .holds) q 0) k (λ h. fails (releases p v q k) (releases-says p v q k) n)
 
-  pub after-move : (train u v : ℕ) → v < length (p .tracks) → u ≢ v → AfterMove p σ (after p σ (Moved train u v)) train u v
-  unfolding after newTrains newLies newHolds newSignals trainAt lieAt heldBy shownAt
+  pub after-move : (train u v : ℕ) → v < length (p .tracks) → u ≢ v → AfterMove p σ (afterDeed p σ (Moved train u v)) train u v
+  unfolding afterDeed newTrains newLies newHolds givenBack deedArrives routeHolds newSignals redBehind deedLeaves routeSignals trainAt lieAt heldBy shownAt
   after-move train u v h d = record {
     stands = gone-other u front end v (λ z. d (sym z)) ∙ stood-here train v h;
     behind = gone-here u front end;
@@ -311,8 +276,8 @@ module _ (p : Plan) (R : Readable p) (σ : State) (W : WellFormed p σ) where
       end x f = getD-beyond front x (rw (length-tab mostTracks (stood train v (σ .trains))) f)
 
   -- Left.
-  pub after-leaving : (train u : ℕ) → AfterLeaving p σ (after p σ (Left train u)) u
-  unfolding after newTrains newLies newHolds newSignals trainAt lieAt heldBy shownAt
+  pub after-leaving : (train u : ℕ) → AfterLeaving p σ (afterDeed p σ (Left train u)) u
+  unfolding afterDeed newTrains newLies newHolds givenBack deedArrives routeHolds newSignals redBehind deedLeaves routeSignals trainAt lieAt heldBy shownAt
   after-leaving train u = record {
     behind = gone-here u (σ .trains) beyond;
     otherTrains = λ x d. gone-other u (σ .trains) beyond x d;
@@ -322,12 +287,7 @@ module _ (p : Plan) (R : Readable p) (σ : State) (W : WellFormed p σ) where
     otherSignals = λ s n. red-other u s n;
   }
 
--- A refusal or an accident leaves the state as it was.
-
+-- A refusal leaves the state as it was.
 pub after-refusal : (p : Plan) (σ : State) (refusal : Refusal) → after p σ (Refused refusal) ≡ σ
-unfolding after newTrains newLies newHolds newSignals
+unfolding after
 after-refusal p σ refusal = refl
-
-pub after-accident : (p : Plan) (σ : State) (harm : Harm) → after p σ (Accident harm) ≡ σ
-unfolding after newTrains newLies newHolds newSignals
-after-accident p σ harm = refl

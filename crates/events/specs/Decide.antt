@@ -17,8 +17,9 @@ use Rattle.events.specs.declared.Event.{Event}
 use Rattle.events.specs.declared.Event.the-variants.{Request, Cancel, Enter, Move, Unknown}
 use Rattle.events.specs.declared.Refusal.the-variants.{IllFormed, BadEvent, NotRed, Occupied, Held, NotGreen, HomeOccupied, TrainIn, TrainOut, Red}
 use Rattle.events.specs.declared.Harm.the-variants.{Collision, RunThrough, Derailment}
+use Rattle.events.specs.declared.Deed.the-variants.{Granted, Cancelled, Entered, Moved, Left}
 use Rattle.events.specs.declared.Answer.{Answer}
-use Rattle.events.specs.declared.Answer.the-variants.{Refused, Accident, Granted, Cancelled, Entered, Moved, Left}
+use Rattle.events.specs.declared.Answer.the-variants.{Refused, Accident, Done}
 
 -- The tests of one cell.
 
@@ -69,7 +70,7 @@ heldPoint tracks normal reverse holds = lowest tracks (heldListed normal reverse
 unfoldable pub derailedPoint : ℕ → List ℕ → List ℕ → List ℕ → List ℕ → Found
 derailedPoint tracks normal reverse trains lies = lowest tracks (derails normal reverse trains lies)
 
--- Where a train is: the track of its front, and whether it is in the plan at all.
+-- Where a train is: the track that it stands on, and whether it is in the plan at all.
 
 unfoldable pub frontOf : Plan → List ℕ → ℕ → Found
 frontOf p trains train = lowest (length (p .tracks)) (stands trains train)
@@ -108,7 +109,7 @@ module _ (p : Plan) where
       (unless (busyTrack (length (p .tracks)) (routeOf p r .clear) (σ .trains)) (λ u. Refused (Occupied u))
       (unless (heldPoint (length (p .tracks)) (routeOf p r .normal) (routeOf p r .reverse) (σ .holds)) (λ q. Refused (Held q))
       (unless (derailedPoint (length (p .tracks)) (routeOf p r .normal) (routeOf p r .reverse) (σ .trains) (σ .lies)) (λ q. Accident (Derailment q))
-      (Granted r))))
+      (Done (Granted r)))))
       (Refused NotRed)
 
   -- 15, 16
@@ -116,7 +117,7 @@ module _ (p : Plan) where
   answerCancel trains signals r =
       cond (isGreen signals (routeOf p r .start) r)
       (cond (hasTrain trains (homeOf p (routeOf p r .start))) (Refused (HomeOccupied (homeOf p (routeOf p r .start))))
-      (Cancelled r))
+      (Done (Cancelled r)))
       (Refused NotGreen)
 
   -- 17, 13, 40
@@ -125,20 +126,20 @@ module _ (p : Plan) where
       cond (inPlan p trains train) (Refused TrainIn)
       (unless (busyTrack (length (p .tracks)) (entryOf p e .clear) trains) (λ u. Refused (Occupied u))
       (cond (hasTrain trains (entryOf p e .track)) (Accident (Collision (entryOf p e .track)))
-      (Entered train (entryOf p e .track))))
+      (Done (Entered train (entryOf p e .track)))))
 
   -- 40, 41
   unfoldable pub moveTo : List ℕ → List ℕ → ℕ → ℕ → ℕ → Answer
   moveTo trains lies train u v =
       cond (hasTrain trains v) (Accident (Collision v))
       (cond (runsThrough p lies u v) (Accident (RunThrough v))
-      (Moved train u v))
+      (Done (Moved train u v)))
 
   -- 19; from an exit the train leaves
   unfoldable pub moveFrom : List ℕ → List ℕ → List ℕ → ℕ → ℕ → Answer
   moveFrom trains lies signals train u =
       unless (redAt p signals u) (λ s. Refused (Red s))
-      (cond (isExit p u) (Left train u)
+      (cond (isExit p u) (Done (Left train u))
       (moveTo trains lies train u (wayOut p lies u)))
 
   -- 18

@@ -1,12 +1,13 @@
 -- What the answers and the state after them mean, in the words of document 01, "State and events".
 use mathlib.Core.Path.{_≡_}
-use mathlib.Core.Bool.{Bool, true, false}
+use mathlib.Core.Bool.{true, false}
 use mathlib.Core.Logic.{_≢_, _⊎_}
 use mathlib.Core.List.{List}
-use Prim.Native.Nat.{ℕ, _<_, _≤_}
+use Prim.Native.Nat.{ℕ, _<_}
 use lib.ListN.{length, getD}
 use Rattle.laws.specs.Tests.{Is}
 use Rattle.laws.specs.Lists.{In}
+use Rattle.laws.specs.Answers.{Table, last, asks, needs, names, the, Gives}
 use Rattle.plan.specs.declared.Release.{Release}
 use Rattle.plan.specs.Records.{Plan, homeOf, routeOf, entryOf}
 use Rattle.plan.specs.Layout.{isExit, legged, out, leg}
@@ -16,17 +17,10 @@ use Rattle.events.specs.declared.Event.{Event}
 use Rattle.events.specs.declared.Event.the-variants.{Request, Cancel, Enter, Move, Unknown}
 use Rattle.events.specs.declared.Refusal.the-variants.{IllFormed, BadEvent, NotRed, Occupied, Held, NotGreen, HomeOccupied, TrainIn, TrainOut, Red}
 use Rattle.events.specs.declared.Harm.the-variants.{Collision, RunThrough, Derailment}
+use Rattle.events.specs.declared.Deed.{Deed}
+use Rattle.events.specs.declared.Deed.the-variants.{Granted, Cancelled, Entered, Moved, Left}
 use Rattle.events.specs.declared.Answer.{Answer}
-use Rattle.events.specs.declared.Answer.the-variants.{Refused, Accident, Granted, Cancelled, Entered, Moved, Left}
-
--- None is so; or one is, and no lower one.
-
-abbrev pub None : (ℕ → Type 0) → Type 0
-None Such = (x : ℕ) → Such x → ⊥
-
-pub record LowestSuch (Such : ℕ → Type 0) (x : ℕ) : Type 0 where
-  pub such : Such x
-  pub noLower : (y : ℕ) → y < x → Such y → ⊥
+use Rattle.events.specs.declared.Answer.the-variants.{Refused, Accident, Done}
 
 -- what stands for a release that doesn't exist
 abbrev pub noRelease : Release
@@ -34,14 +28,6 @@ noRelease = record { track = 0; point = 0 }
 
 -- What the table speaks of.
 module _ (p : Plan) where
-  -- the kind is known, no unused byte is in the way, the route or entry is there, the train number is not 0
-  abbrev pub Known : Event → Type 0
-  Known (Request r) = r < length (p .routes)
-  Known (Cancel r) = r < length (p .routes)
-  Known (Enter e train) = (e < length (p .entries)) × (train ≢ noTrain)
-  Known (Move train) = train ≢ noTrain
-  Known Unknown = ⊥
-
   -- the route's listed points are those of its normal and reverse lists
   abbrev pub Listed : ℕ → ℕ → Type 0
   Listed r q = In q (routeOf p r .normal) ⊎ In q (routeOf p r .reverse)
@@ -72,7 +58,7 @@ module _ (p : Plan) (σ : State) where
   abbrev pub Derails : ℕ → ℕ → Type 0
   Derails r q = HasTrain σ q × OtherLie r q
 
-  -- the train, by its front, stands on the track; the train is in the plan
+  -- the train stands on the track; the train is in the plan
   abbrev pub FrontAt : ℕ → ℕ → Type 0
   FrontAt train u = trainAt σ u ≡ train
 
@@ -92,8 +78,6 @@ module _ (p : Plan) (σ : State) where
   RunsThrough u v =
       Is (legged p v) × (((lieAt σ v ≡ normalLie) × (leg p v false ≢ u)) ⊎ ((lieAt σ v ≡ reverseLie) × (leg p v true ≢ u)))
 
-  -- The table: for each answer the sentence that it is given for, the tests before it having passed.
-
   abbrev pub SignalRed : ℕ → Type 0
   SignalRed r = shownAt σ (routeOf p r .start) ≡ red
 
@@ -103,41 +87,65 @@ module _ (p : Plan) (σ : State) where
   abbrev pub HomeOf : ℕ → ℕ
   HomeOf r = homeOf p (routeOf p r .start)
 
-  pub data Given : Event → Answer → Type 0 where
-    row10 : {event : Event} → (WellFormed p σ → ⊥) → Given event (Refused IllFormed)
-    row11 : {event : Event} → WellFormed p σ → (Known p event → ⊥) → Given event (Refused BadEvent)
-    row12 : {r : ℕ} → WellFormed p σ → Known p (Request r) → (SignalRed r → ⊥) → Given (Request r) (Refused NotRed)
-    row13 : {r u : ℕ} → WellFormed p σ → Known p (Request r) → SignalRed r → LowestSuch (Busy (routeOf p r .clear)) u
-        → Given (Request r) (Refused (Occupied u))
-    row14 : {r q : ℕ} → WellFormed p σ → Known p (Request r) → SignalRed r → None (Busy (routeOf p r .clear)) → LowestSuch (HeldListed r) q
-        → Given (Request r) (Refused (Held q))
-    row42 : {r q : ℕ} → WellFormed p σ → Known p (Request r) → SignalRed r → None (Busy (routeOf p r .clear)) → None (HeldListed r)
-        → LowestSuch (Derails r) q → Given (Request r) (Accident (Derailment q))
-    granted : {r : ℕ} → WellFormed p σ → Known p (Request r) → SignalRed r → None (Busy (routeOf p r .clear)) → None (HeldListed r)
-        → None (Derails r) → Given (Request r) (Granted r)
-    row15 : {r : ℕ} → WellFormed p σ → Known p (Cancel r) → (SignalGreen r → ⊥) → Given (Cancel r) (Refused NotGreen)
-    row16 : {r : ℕ} → WellFormed p σ → Known p (Cancel r) → SignalGreen r → HasTrain σ (HomeOf r)
-        → Given (Cancel r) (Refused (HomeOccupied (HomeOf r)))
-    cancelled : {r : ℕ} → WellFormed p σ → Known p (Cancel r) → SignalGreen r → (HasTrain σ (HomeOf r) → ⊥) → Given (Cancel r) (Cancelled r)
-    row17 : {e train : ℕ} → WellFormed p σ → Known p (Enter e train) → InPlan train → Given (Enter e train) (Refused TrainIn)
-    entry13 : {e train u : ℕ} → WellFormed p σ → Known p (Enter e train) → (InPlan train → ⊥) → LowestSuch (Busy (entryOf p e .clear)) u
-        → Given (Enter e train) (Refused (Occupied u))
-    entry40 : {e train : ℕ} → WellFormed p σ → Known p (Enter e train) → (InPlan train → ⊥) → None (Busy (entryOf p e .clear))
-        → HasTrain σ (entryOf p e .track) → Given (Enter e train) (Accident (Collision (entryOf p e .track)))
-    entered : {e train : ℕ} → WellFormed p σ → Known p (Enter e train) → (InPlan train → ⊥) → None (Busy (entryOf p e .clear))
-        → (HasTrain σ (entryOf p e .track) → ⊥) → Given (Enter e train) (Entered train (entryOf p e .track))
-    row18 : {train : ℕ} → WellFormed p σ → Known p (Move train) → (InPlan train → ⊥) → Given (Move train) (Refused TrainOut)
-    row19 : {train u s : ℕ} → WellFormed p σ → Known p (Move train) → FrontAt train u → RedAt u s → Given (Move train) (Refused (Red s))
-    left : {train u : ℕ} → WellFormed p σ → Known p (Move train) → FrontAt train u → None (RedAt u) → Is (isExit p u)
-        → Given (Move train) (Left train u)
-    row40 : {train u v : ℕ} → WellFormed p σ → Known p (Move train) → FrontAt train u → None (RedAt u) → (Is (isExit p u) → ⊥) → Next u v
-        → HasTrain σ v → Given (Move train) (Accident (Collision v))
-    row41 : {train u v : ℕ} → WellFormed p σ → Known p (Move train) → FrontAt train u → None (RedAt u) → (Is (isExit p u) → ⊥) → Next u v
-        → (HasTrain σ v → ⊥) → RunsThrough u v → Given (Move train) (Accident (RunThrough v))
-    moved : {train u v : ℕ} → WellFormed p σ → Known p (Move train) → FrontAt train u → None (RedAt u) → (Is (isExit p u) → ⊥) → Next u v
-        → (HasTrain σ v → ⊥) → (RunsThrough u v → ⊥) → Given (Move train) (Moved train u v)
+  -- The table of answers, one for each kind of event. 11 stands first in each: no such route or entry, or train number 0.
 
--- What a state τ shows after an answer, for each kind of cell: what it becomes, and that every other cell is as before.
+  -- 11, 12, 13, 14, 42
+  unfoldable pub requestTable : ℕ → Table Answer
+  requestTable r =
+      needs (r < length (p .routes)) (Refused BadEvent)
+      (needs (SignalRed r) (Refused NotRed)
+      (names (Busy (routeOf p r .clear)) (λ u. Refused (Occupied u))
+      (names (HeldListed r) (λ q. Refused (Held q))
+      (names (Derails r) (λ q. Accident (Derailment q))
+      (last (Done (Granted r)))))))
+
+  -- 11, 15, 16
+  unfoldable pub cancelTable : ℕ → Table Answer
+  cancelTable r =
+      needs (r < length (p .routes)) (Refused BadEvent)
+      (needs (SignalGreen r) (Refused NotGreen)
+      (asks (HasTrain σ (HomeOf r)) (Refused (HomeOccupied (HomeOf r)))
+      (last (Done (Cancelled r)))))
+
+  -- 11, 17, 13, 40
+  unfoldable pub enterTable : ℕ → ℕ → Table Answer
+  enterTable e train =
+      needs ((e < length (p .entries)) × (train ≢ noTrain)) (Refused BadEvent)
+      (asks (InPlan train) (Refused TrainIn)
+      (names (Busy (entryOf p e .clear)) (λ u. Refused (Occupied u))
+      (asks (HasTrain σ (entryOf p e .track)) (Accident (Collision (entryOf p e .track)))
+      (last (Done (Entered train (entryOf p e .track)))))))
+
+  -- 11, 18, 19, 40, 41; from an exit the train leaves
+  unfoldable pub moveTable : ℕ → Table Answer
+  moveTable train =
+      needs (train ≢ noTrain) (Refused BadEvent)
+      (needs (InPlan train) (Refused TrainOut)
+      (the (FrontAt train) λ u.
+      names (RedAt u) (λ s. Refused (Red s))
+      (asks (Is (isExit p u)) (Done (Left train u))
+      (the (Next u) λ v.
+      asks (HasTrain σ v) (Accident (Collision v))
+      (asks (RunsThrough u v) (Accident (RunThrough v))
+      (last (Done (Moved train u v))))))))
+
+  -- 11 for what is no event: an unknown kind, an unused byte that is not 0, an incomplete last event
+  unfoldable pub eventTable : Event → Table Answer
+  eventTable (Request r) = requestTable r
+  eventTable (Cancel r) = cancelTable r
+  eventTable (Enter e train) = enterTable e train
+  eventTable (Move train) = moveTable train
+  eventTable Unknown = last (Refused BadEvent)
+
+  -- 10, and then the event's own
+  unfoldable pub tableOf : Event → Table Answer
+  tableOf event = needs (WellFormed p σ) (Refused IllFormed) (eventTable event)
+
+  -- the table gives the event this answer
+  pub record Given (event : Event) (a : Answer) : Type 0 where
+    pub row : Gives (tableOf event) a
+
+-- What a state τ shows after a deed, for each kind of cell: what it becomes, and that every other cell is as before.
 
 module _ (σ τ : State) where
   abbrev pub SameTrains : Type 0
@@ -199,6 +207,19 @@ pub record AfterLeaving (p : Plan) (σ τ : State) (u : ℕ) : Type 0 where
   pub holds : SameHolds σ τ
   pub signal : (s : ℕ) → StandsAt p u s → shownAt τ s ≡ red
   pub otherSignals : (s : ℕ) → (StandsAt p u s → ⊥) → shownAt τ s ≡ shownAt σ s
+
+abbrev pub FollowsDeed : Plan → State → State → Deed → Type 0
+FollowsDeed p σ τ (Granted r) = AfterGrant p σ τ r
+FollowsDeed p σ τ (Cancelled r) = AfterCancel p σ τ r
+FollowsDeed p σ τ (Entered train u) = AfterEntry σ τ train u
+FollowsDeed p σ τ (Moved train u v) = AfterMove p σ τ train u v
+FollowsDeed p σ τ (Left train u) = AfterLeaving p σ τ u
+
+-- the state τ after an answer: a refusal or an accident changes nothing at all
+abbrev pub Follows : Plan → State → State → Answer → Type 0
+Follows p σ τ (Refused refusal) = τ ≡ σ
+Follows p σ τ (Accident harm) = τ ≡ σ
+Follows p σ τ (Done deed) = FollowsDeed p σ τ deed
 
 -- Two states that agree on a route's signal, its clear-list tracks, and the holds, lies and trains of its listed points.
 pub record Alike (p : Plan) (r : ℕ) (σ τ : State) : Type 0 where

@@ -34,15 +34,20 @@ pub enum Harm {
     Derailment(usize),
 }
 
-// What comes of an event. Only the last five change the state.
-pub enum Answer {
-    Refused(Refusal),
-    Accident(Harm),
+// What an event does to the state.
+pub enum Deed {
     Granted(usize),
     Cancelled(usize),
     Entered { train: u8, track: usize },
     Moved { train: u8, from: usize, to: usize },
     Left { train: u8, from: usize },
+}
+
+// What comes of an event. Only a deed changes the state.
+pub enum Answer {
+    Refused(Refusal),
+    Accident(Harm),
+    Done(Deed),
 }
 
 // The event of three bytes.

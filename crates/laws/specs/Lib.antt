@@ -2,6 +2,8 @@ pub mod Tests
 pub mod Chains
 pub mod Lists
 pub mod Search
+pub mod Answers
+pub mod Rows
 pub mod Walks
 pub mod Tables
 pub mod Sets

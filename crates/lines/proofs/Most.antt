@@ -1,24 +1,23 @@
 -- Every line of every answer, verdict and form is at most `lineMost` bytes long.
-use mathlib.Core.Logic.{inl, inr}
 use mathlib.Core.List.{List, [], _∷_, _++_}
 use Prim.Native.Nat.{ℕ, _+_, _≤_}
 use Prim.Native.String.{String}
 use native.Mathlib.Omega.{arith}
 use native.Mathlib.Nat.{le-trans}
 use lib.ListN.{length, length-append}
-use lib.Dec.{eqb, lit≤}
-use Rattle.laws.specs.Tests.{split}
+use lib.Dec.{lit≤}
 use Rattle.events.specs.declared.Refusal.the-variants.{IllFormed, BadEvent, NotRed, Occupied, Held, NotGreen, HomeOccupied, TrainIn, TrainOut, Red}
 use Rattle.events.specs.declared.Harm.the-variants.{Collision, RunThrough, Derailment}
+use Rattle.events.specs.declared.Deed.the-variants.{Granted, Cancelled, Entered, Moved, Left}
 use Rattle.events.specs.declared.Answer.{Answer}
-use Rattle.events.specs.declared.Answer.the-variants.{Refused, Accident, Granted, Cancelled, Entered, Moved, Left}
+use Rattle.events.specs.declared.Answer.the-variants.{Refused, Accident, Done}
 use Rattle.events.specs.Answers.{answerValues}
 use Rattle.rules.specs.declared.Verdict.{Verdict}
-use Rattle.rules.specs.Rules.{ruleNumber, ruleRow}
+use Rattle.rules.specs.declared.Verdict.the-variants.{Accepted, Broken}
 use Rattle.scan.specs.declared.Form.{Form}
 use Rattle.scan.specs.Reading.{formNumber, formOffset}
 use Rattle.lines.specs.Decimal.{decimal, numberMost}
-use Rattle.lines.specs.Lines.{bytesOf, line, refusalWords, harmWords, answerWords, tableNumber, answerLine, verdictLine, formLine, lineMost}
+use Rattle.lines.specs.Lines.{bytesOf, line, refusalWords, harmWords, deedWords, answerWords, tableNumber, answerLine, verdictLine, formLine, lineMost}
 use Rattle.lines.proofs.Digits.{decimal-most}
 
 -- the room for words, whatever their numbers, and the end
@@ -35,7 +34,7 @@ line-most (word ∷ words) (n ∷ numbers) =
     (let d = decimal-most n in let i = line-most words numbers in omega arith)
 
 words-room : (answer : Answer) → room (answerWords answer) ≤ lineMost
-unfolding room answerWords refusalWords harmWords bytesOf
+unfolding room answerWords refusalWords harmWords deedWords bytesOf
 words-room (Refused IllFormed) = lit≤ tt
 words-room (Refused BadEvent) = lit≤ tt
 words-room (Refused NotRed) = lit≤ tt
@@ -49,11 +48,11 @@ words-room (Refused (Red signal)) = lit≤ tt
 words-room (Accident (Collision track)) = lit≤ tt
 words-room (Accident (RunThrough track)) = lit≤ tt
 words-room (Accident (Derailment point)) = lit≤ tt
-words-room (Granted route) = lit≤ tt
-words-room (Cancelled route) = lit≤ tt
-words-room (Entered train track) = lit≤ tt
-words-room (Moved train from to) = lit≤ tt
-words-room (Left train from) = lit≤ tt
+words-room (Done (Granted route)) = lit≤ tt
+words-room (Done (Cancelled route)) = lit≤ tt
+words-room (Done (Entered train track)) = lit≤ tt
+words-room (Done (Moved train from to)) = lit≤ tt
+words-room (Done (Left train from)) = lit≤ tt
 
 pub answer-most : (answer : Answer) → length (answerLine answer) ≤ lineMost
 unfolding answerLine
@@ -61,10 +60,8 @@ answer-most answer = le-trans (line-most (answerWords answer) (tableNumber answe
 
 pub verdict-most : (verdict : Verdict) → length (verdictLine verdict) ≤ lineMost
 unfolding verdictLine room bytesOf
-verdict-most verdict = elim (split (eqb (ruleNumber verdict) 0)) [
-  | inl e ↦ rw e (lit≤ tt)
-  | inr e ↦ rw e (le-trans (line-most ("rule " ∷ " row " ∷ []) (ruleNumber verdict ∷ ruleRow verdict ∷ [])) (lit≤ tt))
-]
+verdict-most Accepted = lit≤ tt
+verdict-most (Broken rule row) = le-trans (line-most ("rule " ∷ " row " ∷ []) (rule ∷ row ∷ [])) (lit≤ tt)
 
 pub form-most : (form : Form) → length (formLine form) ≤ lineMost
 unfolding formLine room bytesOf

@@ -1,8 +1,6 @@
 -- The lines' bytes, case by case, as the code writes them.
 use mathlib.Core.Path.{_≡_, refl}
 use mathlib.Core.List.{[], _∷_, _++_}
-use Prim.Native.Nat.{ℕ}
-use borrow.Author.Tests.{ne-eqb}
 use types.Run.{OneOf, miss}
 use denote.Enum.Declared.{tagOf}
 use Rattle.events.specs.declared.Refusal.{Refusal}
@@ -10,10 +8,8 @@ use Rattle.events.proofs.Refusal.{the-type}
 use Rattle.events.specs.declared.Refusal.the-variants.{IllFormed, BadEvent, NotRed, Occupied, Held, NotGreen, HomeOccupied, TrainIn, TrainOut, Red}
 use Rattle.events.specs.declared.Answer.the-variants.{Refused}
 use Rattle.events.specs.Answers.{refusalNumber, refusalValues, answerValues}
-use Rattle.rules.specs.declared.Verdict.{Verdict}
-use Rattle.rules.specs.Rules.{ruleNumber, ruleRow}
 use Rattle.lines.specs.Decimal.{decimal}
-use Rattle.lines.specs.Lines.{bytesOf, end, line, refusalWords, answerWords, tableNumber, answerLine, verdictLine}
+use Rattle.lines.specs.Lines.{bytesOf, end, line, refusalWords, answerWords, tableNumber, answerLine}
 
 -- a refusal that names nothing
 pub bare-line : (refusal : Refusal) → OneOf (0 ∷ 1 ∷ 2 ∷ 5 ∷ 7 ∷ 8 ∷ []) (tagOf the-type refusal)
@@ -29,12 +25,3 @@ bare-line (HomeOccupied track) k = absurd (miss (0 ∷ 1 ∷ 2 ∷ 5 ∷ 7 ∷ 8
 bare-line TrainIn k = refl
 bare-line TrainOut k = refl
 bare-line (Red signal) k = absurd (miss (0 ∷ 1 ∷ 2 ∷ 5 ∷ 7 ∷ 8 ∷ []) 9 tt k)
-
-module _ (verdict : Verdict) {rule : ℕ} (number : rule ≡ ruleNumber verdict) where
-  pub accepted-line : rule ≡ 0 → verdictLine verdict ≡ bytesOf "accepted" ++ end
-  unfolding verdictLine
-  accepted-line h = rw (← number, h)
-
-  pub broken-line : {row : ℕ} → (rule ≡ 0 → ⊥) → row ≡ ruleRow verdict → verdictLine verdict ≡ line ("rule " ∷ " row " ∷ []) (rule ∷ row ∷ [])
-  unfolding verdictLine
-  broken-line h r = rw (← number, ← r, ne-eqb rule 0 h)

@@ -1,19 +1,19 @@
 -- The printed lines of document 01, "The bench plan, byte by byte": an answer, a verdict or a form as the bytes of its line.
-use mathlib.Core.Bool.{cond}
 use mathlib.Core.List.{List, [], _∷_, _++_}
 use Prim.Native.Nat.{ℕ, _+_}
 use Prim.Native.Char.{code}
 use Prim.Native.String.{String, [] as empty, _∷_ as _then_}
-use lib.Dec.{eqb}
 use Rattle.events.specs.declared.Refusal.{Refusal}
 use Rattle.events.specs.declared.Refusal.the-variants.{IllFormed, BadEvent, NotRed, Occupied, Held, NotGreen, HomeOccupied, TrainIn, TrainOut, Red}
 use Rattle.events.specs.declared.Harm.{Harm}
 use Rattle.events.specs.declared.Harm.the-variants.{Collision, RunThrough, Derailment}
+use Rattle.events.specs.declared.Deed.{Deed}
+use Rattle.events.specs.declared.Deed.the-variants.{Granted, Cancelled, Entered, Moved, Left}
 use Rattle.events.specs.declared.Answer.{Answer}
-use Rattle.events.specs.declared.Answer.the-variants.{Refused, Accident, Granted, Cancelled, Entered, Moved, Left}
+use Rattle.events.specs.declared.Answer.the-variants.{Refused, Accident, Done}
 use Rattle.events.specs.Answers.{refusalNumber, harmNumber, answerValues}
 use Rattle.rules.specs.declared.Verdict.{Verdict}
-use Rattle.rules.specs.Rules.{ruleNumber, ruleRow}
+use Rattle.rules.specs.declared.Verdict.the-variants.{Accepted, Broken}
 use Rattle.scan.specs.declared.Form.{Form}
 use Rattle.scan.specs.Reading.{formNumber, formOffset}
 use Rattle.lines.specs.Decimal.{decimal, numberMost}
@@ -52,33 +52,30 @@ harmWords (Collision track) = " track " ∷ []
 harmWords (RunThrough track) = " track " ∷ []
 harmWords (Derailment point) = " point " ∷ []
 
+unfoldable pub deedWords : Deed → List String
+deedWords (Granted route) = "granted " ∷ []
+deedWords (Cancelled route) = "cancelled " ∷ []
+deedWords (Entered train track) = "entered " ∷ " track " ∷ []
+deedWords (Moved train from to) = "moved " ∷ " from " ∷ " to " ∷ []
+deedWords (Left train from) = "left " ∷ " from " ∷ []
+
 unfoldable pub answerWords : Answer → List String
 answerWords (Refused refusal) = "refused " ∷ refusalWords refusal
 answerWords (Accident harm) = "accident " ∷ harmWords harm
-answerWords (Granted route) = "granted " ∷ []
-answerWords (Cancelled route) = "cancelled " ∷ []
-answerWords (Entered train track) = "entered " ∷ " track " ∷ []
-answerWords (Moved train from to) = "moved " ∷ " from " ∷ " to " ∷ []
-answerWords (Left train from) = "left " ∷ " from " ∷ []
+answerWords (Done deed) = deedWords deed
 
--- the number that the document's table gives; what changes the state has none there
+-- the number that the document's table gives; a deed has none there
 unfoldable pub tableNumber : Answer → List ℕ
 tableNumber (Refused refusal) = refusalNumber refusal ∷ []
 tableNumber (Accident harm) = harmNumber harm ∷ []
-tableNumber (Granted route) = []
-tableNumber (Cancelled route) = []
-tableNumber (Entered train track) = []
-tableNumber (Moved train from to) = []
-tableNumber (Left train from) = []
+tableNumber (Done deed) = []
 
 unfoldable pub answerLine : Answer → List ℕ
 answerLine answer = line (answerWords answer) (tableNumber answer ++ answerValues answer)
 
--- rule 0 is no rule: accepted
 unfoldable pub verdictLine : Verdict → List ℕ
-verdictLine verdict =
-    cond (eqb (ruleNumber verdict) 0) (bytesOf "accepted" ++ end)
-    (line ("rule " ∷ " row " ∷ []) (ruleNumber verdict ∷ ruleRow verdict ∷ []))
+verdictLine Accepted = bytesOf "accepted" ++ end
+verdictLine (Broken rule row) = line ("rule " ∷ " row " ∷ []) (rule ∷ row ∷ [])
 
 unfoldable pub formLine : Form → List ℕ
 formLine form = line ("form " ∷ " at " ∷ []) (formNumber form ∷ formOffset form ∷ [])

@@ -1,13 +1,12 @@
 // An answer, a verdict or a form as the line that is printed, written into lent memory.
 use events::Answer;
+use events::Deed;
 use events::Harm;
 use events::Refusal;
 use numbers::form_number;
 use numbers::form_offset;
 use numbers::harm_number;
 use numbers::refusal_number;
-use numbers::rule_number;
-use numbers::rule_row;
 use plan::image::wide;
 use rules::Verdict;
 use scan::Form;
@@ -19,7 +18,8 @@ use text::put_word;
 ghost use mathlib.Core.Path.{_≡_};
 ghost use Prim.Native.Nat.{_+_, _≤_};
 ghost use lib.ListN.{length};
-ghost use Rattle.events.specs.declared.Answer.the-variants.{Refused, Accident, Entered, Moved, Left};
+ghost use Rattle.events.specs.declared.Deed.the-variants.{Entered, Moved, Left};
+ghost use Rattle.events.specs.declared.Answer.the-variants.{Refused, Accident, Done};
 ghost use Rattle.lines.specs.Lines.{answerLine, verdictLine, formLine, lineMost};
 ghost use Rattle.lines.specs.Written.{Wrote};
 
@@ -66,14 +66,14 @@ fn harm_line(harm: Harm, out: &mut [u8], at: usize) -> usize
 // A train's comings and goings.
 fn entered_line(train: u8, track: usize, out: &mut [u8], at: usize) -> usize
     requires { ⌜ at + lineMost ≤ length (now out) ⌝ }
-    ensures { λ r. ⌜ Wrote (answerLine (Entered train track)) (now (out .entry)) at (now (out .exit)) r ⌝ }
+    ensures { λ r. ⌜ Wrote (answerLine (Done (Entered train track))) (now (out .entry)) at (now (out .exit)) r ⌝ }
 {
     line_of_two(b"entered ", wide(train), b" track ", track, out, at)
 }
 
 fn moved_line(train: u8, from: usize, to: usize, out: &mut [u8], at: usize) -> usize
     requires { ⌜ at + lineMost ≤ length (now out) ⌝ }
-    ensures { λ r. ⌜ Wrote (answerLine (Moved train from to)) (now (out .entry)) at (now (out .exit)) r ⌝ }
+    ensures { λ r. ⌜ Wrote (answerLine (Done (Moved train from to))) (now (out .entry)) at (now (out .exit)) r ⌝ }
 {
     let next = put_number(b"moved ", wide(train), out, at);
     line_of_two(b" from ", from, b" to ", to, out, next)
@@ -81,9 +81,23 @@ fn moved_line(train: u8, from: usize, to: usize, out: &mut [u8], at: usize) -> u
 
 fn left_line(train: u8, from: usize, out: &mut [u8], at: usize) -> usize
     requires { ⌜ at + lineMost ≤ length (now out) ⌝ }
-    ensures { λ r. ⌜ Wrote (answerLine (Left train from)) (now (out .entry)) at (now (out .exit)) r ⌝ }
+    ensures { λ r. ⌜ Wrote (answerLine (Done (Left train from))) (now (out .entry)) at (now (out .exit)) r ⌝ }
 {
     line_of_two(b"left ", wide(train), b" from ", from, out, at)
+}
+
+// A deed's line.
+fn deed_line(deed: Deed, out: &mut [u8], at: usize) -> usize
+    requires { ⌜ at + lineMost ≤ length (now out) ⌝ }
+    ensures { λ r. ⌜ Wrote (answerLine (Done deed)) (now (out .entry)) at (now (out .exit)) r ⌝ }
+{
+    match deed {
+        Deed::Granted(route) => line_of_one(b"granted ", route, out, at),
+        Deed::Cancelled(route) => line_of_one(b"cancelled ", route, out, at),
+        Deed::Entered { train, track } => entered_line(train, track, out, at),
+        Deed::Moved { train, from, to } => moved_line(train, from, to, out, at),
+        Deed::Left { train, from } => left_line(train, from, out, at),
+    }
 }
 
 // An answer's line.
@@ -94,11 +108,7 @@ pub fn answer_line(answer: Answer, out: &mut [u8], at: usize) -> usize
     match answer {
         Answer::Refused(refusal) => refusal_line(refusal, out, at),
         Answer::Accident(harm) => harm_line(harm, out, at),
-        Answer::Granted(route) => line_of_one(b"granted ", route, out, at),
-        Answer::Cancelled(route) => line_of_one(b"cancelled ", route, out, at),
-        Answer::Entered { train, track } => entered_line(train, track, out, at),
-        Answer::Moved { train, from, to } => moved_line(train, from, to, out, at),
-        Answer::Left { train, from } => left_line(train, from, out, at),
+        Answer::Done(deed) => deed_line(deed, out, at),
     }
 }
 
@@ -107,12 +117,11 @@ pub fn verdict_line(verdict: Verdict, out: &mut [u8], at: usize) -> usize
     requires { ⌜ at + lineMost ≤ length (now out) ⌝ }
     ensures { λ r. ⌜ Wrote (verdictLine verdict) (now (out .entry)) at (now (out .exit)) r ⌝ }
 {
-    let rule = rule_number(verdict);
-    if rule == 0 {
-        let next = put_word(b"accepted", out, at);
-        return put_end(out, next);
+    if let Verdict::Broken { rule, row } = verdict {
+        return line_of_two(b"rule ", rule, b" row ", row, out, at);
     }
-    line_of_two(b"rule ", rule, b" row ", rule_row(verdict), out, at)
+    let next = put_word(b"accepted", out, at);
+    put_end(out, next)
 }
 
 // A form's line.

@@ -1,22 +1,23 @@
 -- Each rule's test of a row is true exactly when the document's sentence holds of that row.
-use mathlib.Core.Path.{_≡_, refl, sym, ap, _∙_}
+use mathlib.Core.Path.{_≡_, refl, sym, _∙_}
 use mathlib.Core.Bool.{Bool, true, false, not, cond, _&&_, _||_}
 use mathlib.Core.Logic.{_≢_, _⊎_, inl, inr}
-use mathlib.Core.List.{List, [], _∷_}
-use Prim.Native.Nat.{ℕ, zero, suc, _+_, _-_, _<_, _≤_}
+use mathlib.Core.List.{List}
+use Prim.Native.Nat.{ℕ, suc, _-_, _<_}
 use native.Mathlib.Omega.{arith}
 use lib.ListN.{length, getD}
 use lib.Dec.{eqb, ltb}
-use borrow.Author.Tests.{eqb-true, eqb-false, eq-eqb, ne-eqb, ltb-true, lt-ltb}
-use Rattle.laws.specs.Tests.{Is, split, clash, same?, below?, and-l, and-r, and-i, or-e, or-l, or-r, not-t, not-f, not-i, cond-t, cond-f}
-use Rattle.laws.specs.Lists.{allOf, has, In, has-in, in-has, allOf-in, in-allOf, allOf-at, allOf-all}
+use borrow.Author.Tests.{eqb-false, ne-eqb, ltb-true, lt-ltb}
+use Rattle.laws.specs.Tests.{Is, split, clash, below?, and-l, and-r, and-i, or-e, or-l, or-r, not-t, not-f, not-i, cond-t, cond-f}
+use Rattle.laws.specs.Lists.{All, allOf, has, In, has-in, in-has, allOf-in, in-allOf, allOf-at, allOf-all}
 use Rattle.laws.specs.Search.{allBelow, allBelow-at, allBelow-all}
 use Rattle.plan.specs.declared.Release.{Release}
 use Rattle.plan.specs.Records.{Plan, homeOf, routeOf, entryOf}
 use Rattle.plan.specs.Layout.{isPlain, isExit, forks, legged, out, leg, leads, isHome}
 use Rattle.rules.specs.Rules.{noRelease, different, later, pathLength, wayOf, trackAt, pointsOf, releaseOf, wants, listedOut, listedIn, listed, released}
-use Rattle.rules.specs.Rules.{waysDiffer, legsLead, isLeg, noneLeads, forbidden, ledOnce, homePlain, entryPlaced, linkedAt, pathLinked, noHomeAt, ends, pathEnds, pathClear, facingListed, trailingListed, pointsListed, pointsClear, releaseFits, releasesFit, entryClear, rules, ruleOf}
-use Rattle.rules.specs.Sentences.{Exactly, Plain, Exit, Facing, Trailing, Leads, Home, Listed, Released, WaysDiffer, LegsLead, LedOnce, HomePlain, EntryPlaced, PathLinked, PathEnds, PathClear, PointsListed, PointsClear, ReleasesFit, EntryClear, sentences, Says}
+use Rattle.rules.specs.Rules.{waysDiffer, legsLead, isLeg, noneLeads, forbidden, ledOnce, homePlain, entryPlaced, linkedAt, pathLinked, noHomeAt, ends, pathEnds, pathClear, facingListed, trailingListed, pointsListed, pointsClear, releaseFits, releasesFit, entryClear}
+use Rattle.rules.specs.Sentences.{Exactly, Exit, Facing, Trailing, Leads, Home, WaysDiffer, LegsLead, LedOnce, HomePlain, EntryPlaced, PathLinked, PathEnds, PathClear, PointsListed, PointsClear, ReleasesFit, EntryClear}
+use Rattle.rules.specs.Verdict.{Rule, rules}
 use Rattle.rules.proofs.Notions.{fails, nand-e, nand-i, imp-e, imp-i, plain-is, exit-is, facing-is, trailing-is, home-is, leads-is, leads-track, none-leads-is, leg-is, different-is, later-is, wants-is, listed-is, listed-out-is, listed-in-is, released-is}
 
 module _ (p : Plan) where
@@ -310,20 +311,28 @@ module _ (p : Plan) where
           back : (lie : Bool) → Is (b lie)
           back lie = in-allOf (released p r) (pointsOf p r lie) (λ x m. released-is p r x .1 (s .points x .1 (lie, m)))
 
--- By the rule's number.
-pub meaning : (p : Plan) (k i : ℕ) → Exactly (Is (ruleOf p k .test i)) (Says p k i)
-unfolding ruleOf rules Says sentences
-meaning p zero i = (λ e. tt, λ s. refl)
-meaning p (suc zero) i = ways-differ-is p i
-meaning p (suc (suc zero)) i = legs-lead-is p i
-meaning p (suc (suc (suc zero))) i = led-once-is p i
-meaning p (suc (suc (suc (suc zero)))) i = home-plain-is p i
-meaning p (suc (suc (suc (suc (suc zero))))) i = entry-placed-is p i
-meaning p (suc (suc (suc (suc (suc (suc zero)))))) i = path-linked-is p i
-meaning p (suc (suc (suc (suc (suc (suc (suc zero))))))) i = path-ends-is p i
-meaning p (suc (suc (suc (suc (suc (suc (suc (suc zero)))))))) i = path-clear-is p i
-meaning p (suc (suc (suc (suc (suc (suc (suc (suc (suc zero))))))))) i = points-listed-is p i
-meaning p (suc (suc (suc (suc (suc (suc (suc (suc (suc (suc zero)))))))))) i = points-clear-is p i
-meaning p (suc (suc (suc (suc (suc (suc (suc (suc (suc (suc (suc zero))))))))))) i = releases-fit-is p i
-meaning p (suc (suc (suc (suc (suc (suc (suc (suc (suc (suc (suc (suc zero)))))))))))) i = entry-clear-is p i
-meaning p (suc (suc (suc (suc (suc (suc (suc (suc (suc (suc (suc (suc (suc k))))))))))))) i = (λ e. tt, λ s. refl)
+-- The rules of the list, one after another.
+
+abbrev pub Tied : Rule → Type 0
+Tied rule = (i : ℕ) → Exactly (Is (rule .test i)) (rule .sentence i)
+
+infixr 50 _and_
+abbrev _and_ : {A B : Type 0} → A → B → A × B
+a and b = (a, b)
+
+pub tied : (p : Plan) → All Tied (rules p)
+unfolding All rules
+tied p =
+    ways-differ-is p
+    and legs-lead-is p
+    and led-once-is p
+    and home-plain-is p
+    and entry-placed-is p
+    and path-linked-is p
+    and path-ends-is p
+    and path-clear-is p
+    and points-listed-is p
+    and points-clear-is p
+    and releases-fit-is p
+    and entry-clear-is p
+    and tt

@@ -1,14 +1,12 @@
 -- A row's rules are its own: they are those of a plan that has the same tracks and signals and this one route, or entry, alone.
 use mathlib.Core.Path.{_≡_, refl, sym, ap, _∙_}
-use mathlib.Core.Logic.{_⊎_, inl, inr}
+use mathlib.Core.Bool.{Bool}
 use mathlib.Core.List.{List, [], _∷_}
-use Prim.Native.Nat.{ℕ, zero, suc, _≤_, _-_}
-use native.Mathlib.Omega.{arith}
-use lib.ListN.{getD}
+use Prim.Native.Nat.{ℕ}
 use Rattle.plan.specs.declared.Track.{Track}
 use Rattle.plan.specs.Records.{Route, Entry, Plan, trackOf, homeOf, routeOf, entryOf}
 use Rattle.plan.specs.Layout.{isPlain, isExit, forks, legged, out, leg, leads, isHome}
-use Rattle.rules.specs.Rules.{wayOf, trackAt, pointsOf, wants, wantsOut, listedOut, wantsIn, listedIn, listed, released, noneLeads, entryPlaced, linkedAt, pathLinked, noHomeAt, ends, pathEnds, pathClear, facingListed, trailingListed, pointsListed, pointsClear, releaseFits, releasesFit, entryClear, rules, ruleOf, noRule}
+use Rattle.rules.specs.Rules.{wayOf, trackAt, pointsOf, wants, wantsOut, listedOut, wantsIn, listedIn, listed, released, noneLeads, entryPlaced, linkedAt, pathLinked, noHomeAt, ends, pathEnds, pathClear, facingListed, trailingListed, pointsListed, pointsClear, releaseFits, releasesFit, entryClear}
 
 alone : List Track → List ℕ → List Route → List Entry → Plan
 alone tracks signals routes entries = record { tracks = tracks; signals = signals; routes = routes; entries = entries }
@@ -41,16 +39,6 @@ module _ (p : Plan) (r : ℕ) where
   unfolding alone with-route releasesFit releaseFits listed wants released pointsOf routeOf
   given = refl
 
-  route-alone : (k : ℕ) → k ≤ 5 → ruleOf p (suc (suc (suc (suc (suc (suc k)))))) .test r ≡ ruleOf with-route (suc (suc (suc (suc (suc (suc k)))))) .test 0
-  unfolding ruleOf rules
-  route-alone zero h = linked
-  route-alone (suc zero) h = ended
-  route-alone (suc (suc zero)) h = cleared
-  route-alone (suc (suc (suc zero))) h = pointed
-  route-alone (suc (suc (suc (suc zero)))) h = points-cleared
-  route-alone (suc (suc (suc (suc (suc zero))))) h = given
-  route-alone (suc (suc (suc (suc (suc (suc k)))))) h = absurd (omega arith)
-
 module _ (p : Plan) (e : ℕ) where
   with-entry : Plan
   with-entry = alone (p .tracks) (p .signals) [] (entryOf p e ∷ [])
@@ -65,14 +53,24 @@ module _ (p : Plan) (e : ℕ) where
 
 module _ (p q : Plan) (t : p .tracks ≡ q .tracks) (s : p .signals ≡ q .signals) where
   -- two plans that agree on tracks, signals and route r agree on rules 6 to 11 at r
-  pub route-own : (r : ℕ) → routeOf p r ≡ routeOf q r → (k : ℕ) → 6 ≤ k → k ≤ 11 → ruleOf p k .test r ≡ ruleOf q k .test r
-  unfolding with-route
-  route-own r e k h g =
-      let z : k ≡ suc (suc (suc (suc (suc (suc (k - 6)))))) = omega arith in
-      rw z (route-alone p r (k - 6) (omega arith) ∙ ap (λ (x : Plan). ruleOf x (suc (suc (suc (suc (suc (suc (k - 6))))))) .test 0) same ∙ sym (route-alone q r (k - 6) (omega arith)))
-    where
-      same : with-route p r ≡ with-route q r
-      same = cc
+  module _ (r : ℕ) (e : routeOf p r ≡ routeOf q r) where
+    on-route : (f : Plan → ℕ → Bool) → (f p r ≡ f (with-route p r) 0) → (f q r ≡ f (with-route q r) 0) → f p r ≡ f q r
+    unfolding with-route
+    on-route f a b = a ∙ ap (λ (x : Plan). f x 0) same ∙ sym b
+      where
+        same : with-route p r ≡ with-route q r
+        same = cc
+
+    pub route-own : (pathLinked p r ≡ pathLinked q r) × (pathEnds p r ≡ pathEnds q r) × (pathClear p r ≡ pathClear q r)
+        × (pointsListed p r ≡ pointsListed q r) × (pointsClear p r ≡ pointsClear q r) × (releasesFit p r ≡ releasesFit q r)
+    route-own = (
+      on-route pathLinked (linked p r) (linked q r),
+      on-route pathEnds (ended p r) (ended q r),
+      on-route pathClear (cleared p r) (cleared q r),
+      on-route pointsListed (pointed p r) (pointed q r),
+      on-route pointsClear (points-cleared p r) (points-cleared q r),
+      on-route releasesFit (given p r) (given q r),
+    )
 
   -- two plans that agree on tracks, signals and entry e agree on rules 5 and 12 at e
   pub entry-own : (e : ℕ) → entryOf p e ≡ entryOf q e → (entryPlaced p e ≡ entryPlaced q e) × (entryClear p e ≡ entryClear q e)

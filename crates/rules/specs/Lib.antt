@@ -1,2 +1,3 @@
 pub mod Rules
 pub mod Sentences
+pub mod Verdict

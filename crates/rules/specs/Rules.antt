@@ -1,17 +1,14 @@
--- The twelve plan rules of document 01, each a test of one row, and the verdict: accepted, or the lowest broken rule with its lowest row.
-use Prim.Native.Nat.{ℕ, zero, suc, _-_}
+-- The plan rules of document 01, each a test of one row.
+use Prim.Native.Nat.{ℕ, suc, _-_}
 use mathlib.Core.Bool.{Bool, true, false, not, cond, _&&_, _||_}
 use mathlib.Core.List.{List, [], _∷_}
 use lib.ListN.{length, getD}
 use lib.Dec.{eqb, ltb}
 use Rattle.laws.specs.Lists.{allOf, anyOf, has}
-use Rattle.laws.specs.Search.{allBelow, lowest, unless}
+use Rattle.laws.specs.Search.{allBelow}
 use Rattle.plan.specs.declared.Release.{Release}
 use Rattle.plan.specs.Records.{Plan, routeOf, entryOf, homeOf}
 use Rattle.plan.specs.Layout.{isPlain, isExit, forks, legged, out, leg, leads, isHome}
-use Rattle.laws.specs.declared.Found.{Found}
-use Rattle.rules.specs.declared.Verdict.{Verdict}
-use Rattle.rules.specs.declared.Verdict.the-variants.{Accepted, WaysMeet, LegAstray, LedTwice, HomeNotPlain, EntryMisplaced, PathBroken, PathMisended, PathNotClear, PointMislisted, PointNotClear, ReleaseAstray, EntryNotClear}
 
 -- no number stands twice in a list
 unfoldable pub different : List ℕ → Bool
@@ -168,81 +165,3 @@ module _ (p : Plan) where
   -- 12 (entry). The clear list holds the entry track.
   unfoldable pub entryClear : ℕ → Bool
   entryClear e = has (entryOf p e .track) (entryOf p e .clear)
-
--- A rule: how many rows it goes over, its test of a row, and the verdict where a row breaks it.
-pub record Rule : Type 0 where
-  pub rows : ℕ
-  pub test : ℕ → Bool
-  pub broken : ℕ → Verdict
-
--- the lowest row that breaks a rule
-unfoldable pub lowestBroken : Rule → Found
-lowestBroken k = lowest (k .rows) (λ i. not (k .test i))
-
-abbrev pub over : ℕ → (ℕ → Bool) → (ℕ → Verdict) → Rule
-over rows test broken = record { rows = rows; test = test; broken = broken }
-
--- what stands for a rule that doesn't exist: none breaks it
-abbrev pub noRule : Rule
-noRule = over 0 (λ i. true) (λ i. Accepted)
-
--- the rules in their order; there is none of number 0
-unfoldable pub rules : Plan → List Rule
-rules p =
-    noRule
-    ∷ over (length (p .tracks)) (waysDiffer p) WaysMeet
-    ∷ over (length (p .tracks)) (legsLead p) LegAstray
-    ∷ over (length (p .tracks)) (ledOnce p) LedTwice
-    ∷ over (length (p .signals)) (homePlain p) HomeNotPlain
-    ∷ over (length (p .entries)) (entryPlaced p) EntryMisplaced
-    ∷ over (length (p .routes)) (pathLinked p) PathBroken
-    ∷ over (length (p .routes)) (pathEnds p) PathMisended
-    ∷ over (length (p .routes)) (pathClear p) PathNotClear
-    ∷ over (length (p .routes)) (pointsListed p) PointMislisted
-    ∷ over (length (p .routes)) (pointsClear p) PointNotClear
-    ∷ over (length (p .routes)) (releasesFit p) ReleaseAstray
-    ∷ over (length (p .entries)) (entryClear p) EntryNotClear
-    ∷ []
-
-unfoldable pub ruleOf : Plan → ℕ → Rule
-ruleOf p k = getD (rules p) k noRule
-
--- the lowest broken rule with its lowest row
-unfoldable pub firstBroken : List Rule → Verdict
-firstBroken [] = Accepted
-firstBroken (k ∷ l) = unless (lowestBroken k) (k .broken) (firstBroken l)
-
-unfoldable pub verdict : Plan → Verdict
-verdict p = firstBroken (rules p)
-
--- The document's numbers of a verdict: the rule (0: accepted) and the row.
-
-unfoldable pub ruleNumber : Verdict → ℕ
-ruleNumber Accepted = 0
-ruleNumber (WaysMeet i) = 1
-ruleNumber (LegAstray i) = 2
-ruleNumber (LedTwice i) = 3
-ruleNumber (HomeNotPlain i) = 4
-ruleNumber (EntryMisplaced i) = 5
-ruleNumber (PathBroken i) = 6
-ruleNumber (PathMisended i) = 7
-ruleNumber (PathNotClear i) = 8
-ruleNumber (PointMislisted i) = 9
-ruleNumber (PointNotClear i) = 10
-ruleNumber (ReleaseAstray i) = 11
-ruleNumber (EntryNotClear i) = 12
-
-unfoldable pub ruleRow : Verdict → ℕ
-ruleRow Accepted = 0
-ruleRow (WaysMeet i) = i
-ruleRow (LegAstray i) = i
-ruleRow (LedTwice i) = i
-ruleRow (HomeNotPlain i) = i
-ruleRow (EntryMisplaced i) = i
-ruleRow (PathBroken i) = i
-ruleRow (PathMisended i) = i
-ruleRow (PathNotClear i) = i
-ruleRow (PointMislisted i) = i
-ruleRow (PointNotClear i) = i
-ruleRow (ReleaseAstray i) = i
-ruleRow (EntryNotClear i) = i

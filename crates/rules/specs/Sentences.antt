@@ -1,14 +1,13 @@
--- The twelve plan rules as document 01 says them, with "for all", "there is" and equations; proofs/Meaning.antt shows that the tests say just this.
-use Prim.Native.Nat.{ℕ, zero, suc, _+_, _<_, _≤_}
+-- The plan rules as document 01 says them, with "for all", "there is" and equations; proofs/Meaning.antt shows that the tests say just this.
+use Prim.Native.Nat.{ℕ, suc, _<_, _≤_}
 use mathlib.Core.Path.{_≡_}
 use mathlib.Core.Bool.{Bool, true, false, not}
 use mathlib.Core.Logic.{_≢_, _⊎_}
-use mathlib.Core.List.{List, [], _∷_}
-use lib.ListN.{length, getD}
+use lib.ListN.{length}
 use Rattle.laws.specs.Lists.{In}
 use Rattle.plan.specs.Records.{Plan, plain, facing, trailing, exit, trackOf, homeOf, routeOf, entryOf}
 use Rattle.plan.specs.Layout.{out, leg}
-use Rattle.rules.specs.Rules.{pathLength, trackAt, pointsOf, releaseOf, ruleOf}
+use Rattle.rules.specs.Rules.{pathLength, trackAt, pointsOf, releaseOf}
 
 -- each of two statements gives the other
 abbrev pub Exactly : Type 0 → Type 0 → Type 0
@@ -107,48 +106,3 @@ pub record ReleasesFit (p : Plan) (r : ℕ) : Type 0 where
 -- 12 (entry). The clear list holds the entry track.
 abbrev pub EntryClear : Plan → ℕ → Type 0
 EntryClear p e = In (entryOf p e .track) (entryOf p e .clear)
-
--- All of them, for every row.
-pub record Sound (p : Plan) : Type 0 where
-  pub rule1 : (u : ℕ) → u < length (p .tracks) → WaysDiffer p u
-  pub rule2 : (v : ℕ) → v < length (p .tracks) → LegsLead p v
-  pub rule3 : (v : ℕ) → v < length (p .tracks) → LedOnce p v
-  pub rule4 : (s : ℕ) → s < length (p .signals) → HomePlain p s
-  pub rule5 : (e : ℕ) → e < length (p .entries) → EntryPlaced p e
-  pub rule6 : (r : ℕ) → r < length (p .routes) → PathLinked p r
-  pub rule7 : (r : ℕ) → r < length (p .routes) → PathEnds p r
-  pub rule8 : (r : ℕ) → r < length (p .routes) → PathClear p r
-  pub rule9 : (r : ℕ) → r < length (p .routes) → PointsListed p r
-  pub rule10 : (r : ℕ) → r < length (p .routes) → PointsClear p r
-  pub rule11 : (r : ℕ) → r < length (p .routes) → ReleasesFit p r
-  pub rule12 : (e : ℕ) → e < length (p .entries) → EntryClear p e
-
--- The sentences by their number, as the rules stand in their table.
-
-unfoldable pub sentences : Plan → List (ℕ → Type 0)
-sentences p =
-    (λ i. Unit)
-    ∷ WaysDiffer p
-    ∷ LegsLead p
-    ∷ LedOnce p
-    ∷ HomePlain p
-    ∷ EntryPlaced p
-    ∷ PathLinked p
-    ∷ PathEnds p
-    ∷ PathClear p
-    ∷ PointsListed p
-    ∷ PointsClear p
-    ∷ ReleasesFit p
-    ∷ EntryClear p
-    ∷ []
-
--- rule k says so of row i
-unfoldable pub Says : Plan → ℕ → ℕ → Type 0
-Says p k i = getD (sentences p) k (λ i. Unit) i
-
--- rule k is the lowest that is broken, and i its lowest row: the rules below k hold everywhere, rule k holds at the rows below i and fails at i
-pub record Breaks (p : Plan) (k i : ℕ) : Type 0 where
-  pub lower : (j row : ℕ) → j < k → row < ruleOf p j .rows → Says p j row
-  pub inside : i < ruleOf p k .rows
-  pub before : (row : ℕ) → row < i → Says p k row
-  pub fails : Says p k i → ⊥

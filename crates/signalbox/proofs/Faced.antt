@@ -15,7 +15,7 @@ use Rattle.scan.specs.Reading.{Got, form, got, parse, seen}
 use Rattle.scan.proofs.Meaning.{reads-readable}
 use Rattle.reading.specs.Storing.{afterReading}
 use Rattle.rules.specs.declared.Verdict.{Verdict}
-use Rattle.rules.specs.Rules.{verdict}
+use Rattle.rules.specs.Verdict.{verdict}
 use Rattle.state.specs.declared.State.{State}
 use Rattle.state.specs.State.{wellFormed}
 use Rattle.events.specs.declared.Event.{Event}
@@ -23,10 +23,8 @@ use Rattle.events.specs.declared.Refusal.the-variants.{IllFormed}
 use Rattle.events.specs.declared.Answer.{Answer}
 use Rattle.events.specs.declared.Answer.the-variants.{Refused as Refuses}
 use Rattle.events.specs.Decide.{decided, answer}
-use Rattle.events.specs.After.{after}
+use Rattle.events.specs.After.{after, nextState}
 use Rattle.events.proofs.Views.{after-refusal}
-use Rattle.decide.proofs.Acting.{decided-acts}
-use Rattle.act.specs.Cells.{Ready}
 use Rattle.signalbox.specs.Codes.{answerCode, formCode, verdictCode, readCode, checkCode}
 use Rattle.signalbox.specs.Face.{stepCode, stepState}
 
@@ -84,25 +82,15 @@ module _ {file image : List ℕ} (w : Read file image) where
 
   -- One event.
   module _ (σ : State) (event : Event) where
-    pub ready : {a : Answer} → a ≡ decided (planOf image) σ event → Ready (planOf image) a
-    ready e = record { readable = readable-image; acts = rw e (decided-acts readable-image σ event) }
-
     module _ {b : Bool} (t : b ≡ wellFormed (planOf image) σ) where
       pub is-formed : not b ≡ false → wellFormed (w .plan) σ ≡ true
       is-formed h = rw (w .shows) at (sym t ∙ not-f b h)
 
       pub ill-formed : {c : ℕ} → not b ≡ true → c ≡ answerCode (Refuses IllFormed) → (c ≡ stepCode (parse file) σ event) × (σ ≡ stepState (parse file) σ event)
-      unfolding stepCode stepState answer
+      unfolding stepCode stepState nextState answer
       ill-formed h z = let n : wellFormed (w .plan) σ ≡ false = rw (w .shows) at (sym t ∙ not-t b h) in rw (w .parses, n) (z, sym (after-refusal (w .plan) σ IllFormed))
 
-    pub decides : {a : Answer} → wellFormed (w .plan) σ ≡ true → a ≡ decided (planOf image) σ event → a ≡ answer (w .plan) σ event
-    unfolding answer
-    decides f e = rw (f, ← w .shows) e
-
-    pub acts : {a : Answer} {τ : State} → wellFormed (w .plan) σ ≡ true → a ≡ decided (planOf image) σ event → τ ≡ after (planOf image) σ a → τ ≡ after (w .plan) σ (answer (w .plan) σ event)
-    acts f e z = rw (← decides f e, ← w .shows) z
-
-    pub stepped : {a : Answer} {c : ℕ} {τ : State} → wellFormed (w .plan) σ ≡ true → a ≡ decided (planOf image) σ event → τ ≡ after (planOf image) σ a → c ≡ answerCode a
-        → (c ≡ stepCode (parse file) σ event) × (τ ≡ stepState (parse file) σ event)
-    unfolding stepCode stepState
-    stepped f e z y = rw (w .parses) (y ∙ ap answerCode (decides f e), acts f e z)
+    pub stepped : {a : Answer} {c : ℕ} {τ : State} → wellFormed (w .plan) σ ≡ true → a ≡ decided (planOf image) σ event → τ ≡ after (planOf image) σ (decided (planOf image) σ event)
+        → c ≡ answerCode a → (c ≡ stepCode (parse file) σ event) × (τ ≡ stepState (parse file) σ event)
+    unfolding stepCode stepState nextState answer
+    stepped f e z y = rw (w .parses, f, ← w .shows) (y ∙ ap answerCode e, z)

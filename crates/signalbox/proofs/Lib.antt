@@ -1,4 +1,6 @@
+pub mod Coded
 pub mod Faced
-pub mod Printing
+pub mod Opening
+pub mod Playing
 pub mod Running
 pub mod Same

@@ -6,7 +6,7 @@ use Rattle.plan.specs.Records.{Plan}
 use Rattle.scan.specs.declared.Form.{Form}
 use Rattle.scan.specs.Reading.{Got, form, got, formNumber, formOffset}
 use Rattle.rules.specs.declared.Verdict.{Verdict}
-use Rattle.rules.specs.Rules.{ruleNumber, ruleRow, verdict}
+use Rattle.rules.specs.Verdict.{verdict, ruleNumber, ruleRow}
 use Rattle.events.specs.declared.Answer.{Answer}
 use Rattle.events.specs.Answers.{answerNumber, answerValues}
 
@@ -25,7 +25,7 @@ formCode f = formNumber f + 256 * (formOffset f % 65536)
 
 -- a verdict: 200 where the plan is accepted, and 200 more than the number of the rule that is broken, then its row
 unfoldable pub verdictCode : Verdict → ℕ
-verdictCode v = 200 + ruleNumber v + 256 * (ruleRow v % 256)
+verdictCode v = packed ((200 + ruleNumber v) ∷ ruleRow v ∷ [])
 
 -- reading: 0 where the file is a plan
 unfoldable pub readCode : Got Plan → ℕ

@@ -1,5 +1,6 @@
 // Each outcome as one number of 64 bits, by the definitions of specs/Codes.antt.
 use events::Answer;
+use events::Deed;
 use events::Harm;
 use events::Refusal;
 use plan::image::wide;
@@ -8,7 +9,7 @@ use scan::Form;
 ghost use mathlib.Core.Path.{_≡_};
 ghost use Prim.Native.Nat.{_+_, _*_, _%_, _<_};
 ghost use mathlib.Core.List.{[], _∷_};
-ghost use Rattle.events.specs.declared.Answer.the-variants.{Refused, Accident};
+ghost use Rattle.events.specs.declared.Answer.the-variants.{Refused, Accident, Done};
 ghost use Rattle.signalbox.specs.Codes.{packed, answerCode, formCode, verdictCode};
 
 // A number and three values, a byte each.
@@ -48,6 +49,19 @@ fn harm_code(harm: Harm) -> u64
     }
 }
 
+// A deed: the route, or the train and its tracks.
+fn deed_code(deed: Deed) -> u64
+    ensures { λ r. ⌜ r ≡ answerCode (Done deed) ⌝ }
+{
+    match deed {
+        Deed::Granted(route) => pack(100, route, 0, 0),
+        Deed::Cancelled(route) => pack(101, route, 0, 0),
+        Deed::Entered { train, track } => pack(102, wide(train), track, 0),
+        Deed::Moved { train, from, to } => pack(103, wide(train), from, to),
+        Deed::Left { train, from } => pack(104, wide(train), from, 0),
+    }
+}
+
 // An answer of any kind.
 pub fn answer_code(answer: Answer) -> u64
     ensures { λ r. ⌜ r ≡ answerCode answer ⌝ }
@@ -55,11 +69,7 @@ pub fn answer_code(answer: Answer) -> u64
     match answer {
         Answer::Refused(refusal) => refusal_code(refusal),
         Answer::Accident(harm) => harm_code(harm),
-        Answer::Granted(route) => pack(100, route, 0, 0),
-        Answer::Cancelled(route) => pack(101, route, 0, 0),
-        Answer::Entered { train, track } => pack(102, wide(train), track, 0),
-        Answer::Moved { train, from, to } => pack(103, wide(train), from, to),
-        Answer::Left { train, from } => pack(104, wide(train), from, 0),
+        Answer::Done(deed) => deed_code(deed),
     }
 }
 
@@ -89,24 +99,6 @@ pub fn verdict_code(verdict: Verdict) -> u64
 {
     match verdict {
         Verdict::Accepted => 200,
-        Verdict::WaysMeet(row) => row_code(1, row),
-        Verdict::LegAstray(row) => row_code(2, row),
-        Verdict::LedTwice(row) => row_code(3, row),
-        Verdict::HomeNotPlain(row) => row_code(4, row),
-        Verdict::EntryMisplaced(row) => row_code(5, row),
-        Verdict::PathBroken(row) => row_code(6, row),
-        Verdict::PathMisended(row) => row_code(7, row),
-        Verdict::PathNotClear(row) => row_code(8, row),
-        Verdict::PointMislisted(row) => row_code(9, row),
-        Verdict::PointNotClear(row) => row_code(10, row),
-        Verdict::ReleaseAstray(row) => row_code(11, row),
-        Verdict::EntryNotClear(row) => row_code(12, row),
+        Verdict::Broken { rule, row } => pack(200 + rule % 256, row, 0, 0),
     }
-}
-
-fn row_code(rule: u64, row: usize) -> u64
-    requires { ⌜ rule < 256 ⌝ }
-    ensures { λ r. ⌜ r ≡ 200 + rule + 256 * (row % 256) ⌝ }
-{
-    200 + rule + (row % 256) as u64 * 256
 }

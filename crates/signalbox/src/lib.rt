@@ -2,13 +2,11 @@
 // plan, any state and any bytes as events get an answer.
 mod codes;
 
-use act::act;
 use checking::check;
 use codes::answer_code;
 use codes::form_code;
 use codes::refusal_code;
 use codes::verdict_code;
-use decide::decide;
 use events::Refusal;
 use events::event_at;
 use lines::LINE;
@@ -16,20 +14,22 @@ use lines::answer_line;
 use lines::form_line;
 use lines::verdict_line;
 use plan::limits::IMAGE;
-use plan::limits::SIGNALS;
 use plan::limits::TRACKS;
+use play::play;
 use reading::read;
 use scan::Seen;
+use state::cells::CELLS;
 use state::form::well_formed;
 ghost use mathlib.Core.Path.{_≡_};
 ghost use Prim.Native.Nat.{min};
 ghost use lib.ListN.{length};
 ghost use Rattle.scan.specs.Reading.{parse};
-ghost use Rattle.state.specs.State.{stateOf};
+ghost use Rattle.state.specs.Cells.{stateIn};
 ghost use Rattle.events.specs.Events.{eventsOf, firstEvent};
-ghost use Rattle.signalbox.specs.Codes.{checkCode, readCode};
-ghost use Rattle.signalbox.specs.Face.{opening, Printed, Ran, stepCode, stepState};
+ghost use Rattle.lines.specs.Lines.{answerLine};
 ghost use Rattle.lines.specs.Written.{Wrote};
+ghost use Rattle.signalbox.specs.Codes.{checkCode, readCode};
+ghost use Rattle.signalbox.specs.Face.{codeOf, opening, playable, Played, printMost, runMost, stepCode, stepState};
 
 // Whether a file is a plan: 0, or its form's number and offset.
 #[no_mangle]
@@ -61,24 +61,21 @@ pub extern "C" fn signalbox_check(file: &[u8]) -> u64
 #[no_mangle]
 pub extern "C" fn signalbox_step(
     file: &[u8],
-    trains: &mut [u8; TRACKS],
-    lies: &mut [u8; TRACKS],
+    cells: &mut [u8; CELLS],
     holds: &mut [u64; TRACKS],
-    signals: &mut [u8; SIGNALS],
     event: &[u8],
 ) -> u64
-    ensures { λ r. ⌜ (r ≡ stepCode (parse (now (file .entry))) (stateOf (now (trains .entry)) (now (lies .entry)) (now (holds .entry)) (now (signals .entry))) (firstEvent (now (event .entry)))) × (stateOf (now (trains .exit)) (now (lies .exit)) (now (holds .exit)) (now (signals .exit)) ≡ stepState (parse (now (file .entry))) (stateOf (now (trains .entry)) (now (lies .entry)) (now (holds .entry)) (now (signals .entry))) (firstEvent (now (event .entry)))) ⌝ }
+    ensures { λ r. ⌜ (r ≡ stepCode (parse (now (file .entry))) (stateIn (now (cells .entry)) (now (holds .entry))) (firstEvent (now (event .entry)))) × (stateIn (now (cells .exit)) (now (holds .exit)) ≡ stepState (parse (now (file .entry))) (stateIn (now (cells .entry)) (now (holds .entry))) (firstEvent (now (event .entry)))) ⌝ }
 {
     let mut image = [0u8; IMAGE];
     let seen = read(file, &mut image);
     if let Seen::Refused(form) = seen {
         return form_code(form);
     }
-    if !well_formed(&image, trains, lies, holds, signals) {
+    if !well_formed(&image, cells, holds) {
         return refusal_code(Refusal::IllFormed);
     }
-    let answer = decide(&image, trains, lies, holds, signals, event_at(event, 0));
-    act(&image, trains, lies, holds, signals, answer);
+    let answer = play(&image, cells, holds, event_at(event, 0));
     answer_code(answer)
 }
 
@@ -87,39 +84,29 @@ pub extern "C" fn signalbox_step(
 #[no_mangle]
 pub extern "C" fn signalbox_run(
     file: &[u8],
-    trains: &mut [u8; TRACKS],
-    lies: &mut [u8; TRACKS],
+    cells: &mut [u8; CELLS],
     holds: &mut [u64; TRACKS],
-    signals: &mut [u8; SIGNALS],
     events: &[u8],
     answers: &mut [u64],
 ) -> usize
-    ensures { λ r. ⌜ Ran (parse (now (file .entry))) (stateOf (now (trains .entry)) (now (lies .entry)) (now (holds .entry)) (now (signals .entry))) (now (events .entry)) (now (answers .entry)) r (stateOf (now (trains .exit)) (now (lies .exit)) (now (holds .exit)) (now (signals .exit))) (now (answers .exit)) ⌝ }
+    ensures { λ r. ⌜ Played codeOf (parse (now (file .entry))) (stateIn (now (cells .entry)) (now (holds .entry))) (playable (parse (now (file .entry))) (stateIn (now (cells .entry)) (now (holds .entry))) (runMost (now (events .entry)) (length (now (answers .entry)))) (now (events .entry))) (now (answers .entry)) r (stateIn (now (cells .exit)) (now (holds .exit))) (now (answers .exit)) ⌝ }
 {
     let mut image = [0u8; IMAGE];
     let seen = read(file, &mut image);
     let Seen::Next(_) = seen else {
         return 0;
     };
-    if !well_formed(&image, trains, lies, holds, signals) {
+    if !well_formed(&image, cells, holds) {
         return 0;
     }
     let count = least(events.len() / 3, answers.len());
     let mut i = 0;
     while i < count {
-        let answer = decide(
-            &image,
-            trains,
-            lies,
-            holds,
-            signals,
-            event_at(events, 3 * i),
-        );
-        act(&image, trains, lies, holds, signals, answer);
+        let answer = play(&image, cells, holds, event_at(events, 3 * i));
         answers[i] = answer_code(answer);
         i += 1;
     }
-    count
+    i
 }
 
 // The first line that the program prints: the form, the broken rule or `accepted`. Hands back how many bytes it has, or 0 where there is no room
@@ -144,36 +131,26 @@ pub extern "C" fn signalbox_open(file: &[u8], out: &mut [u8]) -> usize
 #[no_mangle]
 pub extern "C" fn signalbox_print(
     file: &[u8],
-    trains: &mut [u8; TRACKS],
-    lies: &mut [u8; TRACKS],
+    cells: &mut [u8; CELLS],
     holds: &mut [u64; TRACKS],
-    signals: &mut [u8; SIGNALS],
     events: &[u8],
     out: &mut [u8],
 ) -> usize
-    ensures { λ r. ⌜ Printed (parse (now (file .entry))) (stateOf (now (trains .entry)) (now (lies .entry)) (now (holds .entry)) (now (signals .entry))) (now (events .entry)) (now (out .entry)) r (stateOf (now (trains .exit)) (now (lies .exit)) (now (holds .exit)) (now (signals .exit))) (now (out .exit)) ⌝ }
+    ensures { λ r. ⌜ Played answerLine (parse (now (file .entry))) (stateIn (now (cells .entry)) (now (holds .entry))) (playable (parse (now (file .entry))) (stateIn (now (cells .entry)) (now (holds .entry))) (printMost (length (now (out .entry)))) (now (events .entry))) (now (out .entry)) r (stateIn (now (cells .exit)) (now (holds .exit))) (now (out .exit)) ⌝ }
 {
     let mut image = [0u8; IMAGE];
     let seen = read(file, &mut image);
     let Seen::Next(_) = seen else {
         return 0;
     };
-    if !well_formed(&image, trains, lies, holds, signals) {
+    if !well_formed(&image, cells, holds) {
         return 0;
     }
     let count = least(incomplete_too(events), out.len() / LINE);
     let mut at = 0;
     let mut i = 0;
     while i < count {
-        let answer = decide(
-            &image,
-            trains,
-            lies,
-            holds,
-            signals,
-            event_at(events, 3 * i),
-        );
-        act(&image, trains, lies, holds, signals, answer);
+        let answer = play(&image, cells, holds, event_at(events, 3 * i));
         at = answer_line(answer, out, at);
         i += 1;
     }

@@ -1,4 +1,6 @@
 pub mod Holds
 pub mod Walks
-pub mod Cells
+pub mod Tests
 pub mod Formed
+pub mod Parts
+pub mod Lent

@@ -1,5 +1,11 @@
-// Whether a state is well formed, and the fresh state.
+// Whether the state that the two lent arrays hold is well formed.
 use crate::HoldSet;
+use crate::cells::CELLS;
+use crate::cells::lie_at;
+use crate::cells::lies_of;
+use crate::cells::shown_at;
+use crate::cells::signals_of;
+use crate::cells::trains_of;
 use crate::lists::all_within;
 use crate::lists::empty_from;
 use crate::lists::lies_known;
@@ -12,34 +18,14 @@ use plan::image::start_of;
 use plan::image::tracks;
 use plan::image::wide;
 use plan::limits::IMAGE;
-use plan::limits::SIGNALS;
 use plan::limits::TRACKS;
 ghost use mathlib.Core.Path.{_≡_};
-ghost use Prim.Native.Nat.{_<_, _≤_};
-ghost use lib.ListN.{length, replicate};
-ghost use Rattle.laws.specs.Lists.{allOf};
-ghost use Rattle.plan.specs.Limits.{mostTracks, mostSignals};
+ghost use Prim.Native.Nat.{_<_};
+ghost use lib.ListN.{length};
+ghost use Rattle.plan.specs.Limits.{mostTracks};
 ghost use Rattle.plan.specs.Image.{planOf};
-ghost use Rattle.state.specs.Holds.{within};
-ghost use Rattle.state.specs.State.{stateOf, fresh, again, once, emptyFrom, pointOr, pointsOnly, greenNames, greensName, liesKnown, wellFormed};
-
-// The state at the start.
-pub fn fresh(
-    trains: &mut [u8; TRACKS],
-    lies: &mut [u8; TRACKS],
-    holds: &mut [u64; TRACKS],
-    signals: &mut [u8; SIGNALS],
-)
-    ensures { λ _. ⌜ stateOf (now (trains .exit)) (now (lies .exit)) (now (holds .exit)) (now (signals .exit)) ≡ fresh ⌝ }
-{
-    let none = [0u8; TRACKS];
-    let free = [0u64; TRACKS];
-    let red = [0u8; SIGNALS];
-    *trains = none;
-    *lies = none;
-    *holds = free;
-    *signals = red;
-}
+ghost use Rattle.state.specs.State.{again, once, pointOr, pointsOnly, greenNames, greensName, wellFormed};
+ghost use Rattle.state.specs.Cells.{liesIn, signalsIn, stateIn};
 
 // Whether the train on a track, if there is one, stands on a later one too.
 fn again(trains: &[u8], track: usize) -> bool
@@ -69,11 +55,11 @@ fn once(trains: &[u8]) -> bool
 }
 
 // Whether a track is a point, or else neither reverse nor held.
-fn point_or(image: &[u8; IMAGE], lies: &[u8; TRACKS], holds: &[u64; TRACKS], track: usize) -> bool
+fn point_or(image: &[u8; IMAGE], cells: &[u8; CELLS], holds: &[u64; TRACKS], track: usize) -> bool
     requires { ⌜ track < mostTracks ⌝ }
-    ensures { λ r. ⌜ r ≡ pointOr (planOf (now (image .entry))) (now (lies .entry)) (now (holds .entry)) track ⌝ }
+    ensures { λ r. ⌜ r ≡ pointOr (planOf (now (image .entry))) (liesIn (now (cells .entry))) (now (holds .entry)) track ⌝ }
 {
-    if lies[track] != 0 {
+    if lie_at(cells, track) != 0 {
         return is_point(image, track);
     }
     let holders = HoldSet {
@@ -86,13 +72,13 @@ fn point_or(image: &[u8; IMAGE], lies: &[u8; TRACKS], holds: &[u64; TRACKS], tra
 }
 
 // Only points are held or reverse.
-fn points_only(image: &[u8; IMAGE], lies: &[u8; TRACKS], holds: &[u64; TRACKS]) -> bool
-    ensures { λ r. ⌜ r ≡ pointsOnly (planOf (now (image .entry))) (now (lies .entry)) (now (holds .entry)) ⌝ }
+fn points_only(image: &[u8; IMAGE], cells: &[u8; CELLS], holds: &[u64; TRACKS]) -> bool
+    ensures { λ r. ⌜ r ≡ pointsOnly (planOf (now (image .entry))) (liesIn (now (cells .entry))) (now (holds .entry)) ⌝ }
 {
     let count = tracks(image);
     let mut u = 0;
     while u < count {
-        if !point_or(image, lies, holds, u) {
+        if !point_or(image, cells, holds, u) {
             return false;
         }
         u += 1;
@@ -115,13 +101,13 @@ fn green_names(image: &[u8; IMAGE], signal: usize, shown: usize) -> bool
 }
 
 // Every green names a route that starts at its signal.
-fn greens_name(image: &[u8; IMAGE], signals: &[u8; SIGNALS]) -> bool
-    ensures { λ r. ⌜ r ≡ greensName (planOf (now (image .entry))) (now (signals .entry)) ⌝ }
+fn greens_name(image: &[u8; IMAGE], cells: &[u8; CELLS]) -> bool
+    ensures { λ r. ⌜ r ≡ greensName (planOf (now (image .entry))) (signalsIn (now (cells .entry))) ⌝ }
 {
     let count = signal_count(image);
     let mut s = 0;
     while s < count {
-        if !green_names(image, s, wide(signals[s])) {
+        if !green_names(image, s, wide(shown_at(cells, s))) {
             return false;
         }
         s += 1;
@@ -130,39 +116,36 @@ fn greens_name(image: &[u8; IMAGE], signals: &[u8; SIGNALS]) -> bool
 }
 
 // Whether any state whatever is well formed.
-pub fn well_formed(
-    image: &[u8; IMAGE],
-    trains: &[u8; TRACKS],
-    lies: &[u8; TRACKS],
-    holds: &[u64; TRACKS],
-    signals: &[u8; SIGNALS],
-) -> bool
-    ensures { λ r. ⌜ r ≡ wellFormed (planOf (now (image .entry))) (stateOf (now (trains .entry)) (now (lies .entry)) (now (holds .entry)) (now (signals .entry))) ⌝ }
+pub fn well_formed(image: &[u8; IMAGE], cells: &[u8; CELLS], holds: &[u64; TRACKS]) -> bool
+    ensures { λ r. ⌜ r ≡ wellFormed (planOf (now (image .entry))) (stateIn (now (cells .entry)) (now (holds .entry))) ⌝ }
 {
-    if !once(&trains[..]) {
+    let trains = trains_of(cells);
+    let lies = lies_of(cells);
+    let signals = signals_of(cells);
+    if !once(trains) {
         return false;
     }
     let count = tracks(image);
-    if !empty_from(count, &trains[..]) {
+    if !empty_from(count, trains) {
         return false;
     }
-    if !empty_from(count, &lies[..]) {
+    if !empty_from(count, lies) {
         return false;
     }
     if !none_from(count, &holds[..]) {
         return false;
     }
-    if !empty_from(signal_count(image), &signals[..]) {
+    if !empty_from(signal_count(image), signals) {
         return false;
     }
     if !all_within(routes(image), &holds[..]) {
         return false;
     }
-    if !points_only(image, lies, holds) {
+    if !points_only(image, cells, holds) {
         return false;
     }
-    if !greens_name(image, signals) {
+    if !greens_name(image, cells) {
         return false;
     }
-    lies_known(&lies[..])
+    lies_known(lies)
 }

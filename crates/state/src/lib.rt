@@ -1,4 +1,5 @@
 // The state: trains, lies, holds and signals.
+pub mod cells;
 pub mod form;
 pub mod lists;
 

@@ -119,6 +119,14 @@ pub fn work(work: &Work) -> String {
             state(&pair.one),
             state(&pair.other)
         ),
+        Work::List(list) => format!(
+            "many events at once from {}, room for {} answers and for {} bytes of lines:\n{}",
+            state(&list.from),
+            list.answers,
+            list.bytes,
+            events_in_words(&list.events)
+        ),
+        Work::Open(room) => format!("the line for the plan, room for {room} bytes\n"),
     }
 }
 

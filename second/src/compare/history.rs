@@ -21,7 +21,7 @@ pub struct Told {
 pub fn play(ready: &mut dyn Prepared, events: &[u8]) -> Vec<Told> {
     let mut state = Arrays::fresh();
     let tell = |event: &[u8]| {
-        let answer = ready.step(&mut state, [event[0], event[1], event[2]]);
+        let answer = ready.step(&mut state, event);
         let after = state.clone();
         Told { answer, after }
     };
@@ -66,8 +66,8 @@ pub fn check(
 /// A request cannot tell two states apart that agree on all it looks at.
 pub fn check_agreement(ready: &mut dyn Prepared, pair: &Pair) -> Finding {
     let event = [1, pair.route, 0];
-    let one = ready.step(&mut pair.one.clone(), event);
-    let other = ready.step(&mut pair.other.clone(), event);
+    let one = ready.step(&mut pair.one.clone(), &event);
+    let other = ready.step(&mut pair.other.clone(), &event);
     if one == other {
         Ok(())
     } else {

@@ -2,6 +2,7 @@
 
 use super::counts::{Counts, CANCELLED, ENTERED, EVENT_KINDS, GRANTED, LEFT, MOVED};
 use super::flaws::FLAWS;
+use super::lists;
 use super::special::SPECIALS;
 use crate::generate::faults::{can_occur, PLACES};
 
@@ -45,6 +46,7 @@ pub fn report(counts: &Counts) -> Vec<String> {
     lines.extend(named_lines(SPECIALS, &counts.specials));
     lines.extend(named_lines(FLAWS, &counts.flaws));
     lines.extend(pair_lines(counts));
+    lines.extend(list_lines(counts));
     println!("{:>10} plans", counts.plans);
     println!("{:>10} events", counts.events);
     for line in &lines {
@@ -136,4 +138,9 @@ fn pair_lines(counts: &Counts) -> Vec<Line> {
         Line::needed(name, counts.pairs[code])
     };
     [12, 13, 14, 42, GRANTED].iter().map(line).collect()
+}
+
+fn list_lines(counts: &Counts) -> impl Iterator<Item = Line> + '_ {
+    let pairs = lists::names().into_iter().zip(&counts.lists);
+    pairs.map(|(name, &count)| Line::needed(name, count))
 }

@@ -5,6 +5,7 @@ pub mod describe;
 pub mod driver;
 mod flaws;
 pub mod history;
+mod lists;
 pub mod minima;
 pub mod shrink;
 pub mod shrink_file;

@@ -29,6 +29,7 @@ pub fn shrink(subject: &dyn Subject, plan: &[u8], work: &Work) -> (Vec<u8>, Work
     loop {
         let mut smaller = shrinker.shrink_events();
         smaller |= shrinker.shrink_states();
+        smaller |= shrinker.shrink_room();
         smaller |= shrinker.shrink_readable();
         smaller |= shrinker.shrink_items();
         smaller |= shrinker.shrink_bytes();
@@ -53,7 +54,43 @@ impl Shrinker<'_> {
     fn events(&self) -> Option<&Vec<u8>> {
         match &self.work {
             Work::Run(events) => Some(events),
+            Work::List(list) => Some(&list.events),
             _ => None,
+        }
+    }
+
+    /// The work with other events.
+    fn with_events(&self, events: Vec<u8>) -> Work {
+        match self.work.clone() {
+            Work::List(mut list) => {
+                list.events = events;
+                Work::List(list)
+            }
+            _ => Work::Run(events),
+        }
+    }
+
+    /// Lends less room.
+    fn shrink_room(&mut self) -> bool {
+        let mut smaller = false;
+        loop {
+            let (mut fewer_answers, mut fewer_bytes) = (self.work.clone(), self.work.clone());
+            let can_be_less = match (&mut fewer_answers, &mut fewer_bytes) {
+                (Work::List(one), Work::List(other)) => {
+                    let (answers, bytes) = (one.answers, other.bytes);
+                    one.answers = answers.saturating_sub(1);
+                    other.bytes = bytes.saturating_sub(1);
+                    (answers > 0, bytes > 0)
+                }
+                _ => return smaller,
+            };
+            let fewer_answers = can_be_less.0 && self.try_out(self.plan.clone(), fewer_answers);
+            let fewer_bytes =
+                !fewer_answers && can_be_less.1 && self.try_out(self.plan.clone(), fewer_bytes);
+            if !fewer_answers && !fewer_bytes {
+                return smaller;
+            }
+            smaller = true;
         }
     }
 
@@ -70,7 +107,7 @@ impl Shrinker<'_> {
                 let end = (at + piece).min(events.len());
                 let mut fewer = events.clone();
                 fewer.drain(at..end);
-                if self.try_out(self.plan.clone(), Work::Run(fewer)) {
+                if self.try_out(self.plan.clone(), self.with_events(fewer)) {
                     smaller = true;
                 } else {
                     at += piece;
@@ -89,6 +126,7 @@ impl Shrinker<'_> {
             let mut work = self.work.clone();
             let changed = match &mut work {
                 Work::Step(arrays, _) => empty(arrays, cell),
+                Work::List(list) => empty(&mut list.from, cell),
                 Work::Agreement(pair) => empty(&mut pair.one, cell) | empty(&mut pair.other, cell),
                 _ => false,
             };

@@ -210,6 +210,7 @@ fn drop_route(arrays: &mut Arrays, number: usize) {
 fn change_states(work: &mut Work, change: impl Fn(&mut Arrays)) {
     match work {
         Work::Step(arrays, _) => change(arrays),
+        Work::List(list) => change(&mut list.from),
         Work::Agreement(pair) => {
             let Pair { one, other, .. } = &mut **pair;
             change(one);
@@ -224,21 +225,24 @@ fn drop_events(work: &mut Work, kinds: &[u8], dropped: usize) {
     let dropped = dropped as u8;
     let names = |kind: u8| kinds.contains(&kind);
     match work {
-        Work::Run(events) => {
-            let mut kept = Vec::with_capacity(events.len());
-            for event in events.chunks_mut(3) {
-                if event.len() == 3 && names(event[0]) {
-                    if event[1] == dropped {
-                        continue;
-                    }
-                    event[1] -= u8::from(event[1] > dropped);
-                }
-                kept.extend_from_slice(event);
-            }
-            *events = kept;
-        }
+        Work::Run(events) => drop_from_list(events, names, dropped),
+        Work::List(list) => drop_from_list(&mut list.events, names, dropped),
         Work::Step(_, event) if names(event[0]) => event[1] -= u8::from(event[1] > dropped),
         Work::Agreement(pair) if names(1) => pair.route -= u8::from(pair.route > dropped),
         _ => {}
     }
+}
+
+fn drop_from_list(events: &mut Vec<u8>, names: impl Fn(u8) -> bool, dropped: u8) {
+    let mut kept = Vec::with_capacity(events.len());
+    for event in events.chunks_mut(3) {
+        if event.len() == 3 && names(event[0]) {
+            if event[1] == dropped {
+                continue;
+            }
+            event[1] -= u8::from(event[1] > dropped);
+        }
+        kept.extend_from_slice(event);
+    }
+    *events = kept;
 }

@@ -5,9 +5,10 @@ use super::history::{self, Told};
 use crate::book::MODEL;
 use crate::generate::case::{Case, Pair};
 use crate::generate::events::Event;
+use crate::generate::lists::List;
 use crate::model::reading::Form;
 use crate::model::state::Arrays;
-use crate::subject::{Prepared, Subject};
+use crate::subject::{Lent, Prepared, Subject};
 use std::fmt::Display;
 
 /// Something to be done with a plan.
@@ -15,10 +16,15 @@ use std::fmt::Display;
 pub enum Work {
     Read,
     Check,
-    /// A whole run, and the same events one by one from the fresh state.
+    /// A whole run, and the same events one by one and at once from the fresh state.
     Run(Vec<u8>),
     Step(Box<Arrays>, Event),
     Agreement(Box<Pair>),
+    /// A list of events at once, for their answers and for their lines, and the bytes left over as
+    /// a single event.
+    List(Box<List>),
+    /// The line for the plan, with room for so many bytes.
+    Open(usize),
 }
 
 /// What the model says and what the subject says instead.
@@ -45,6 +51,8 @@ pub fn works(case: &Case) -> Vec<Work> {
     works.push(Work::Run(case.events.clone()));
     let pairs = case.pairs.iter().cloned();
     works.extend(pairs.map(|pair| Work::Agreement(Box::new(pair))));
+    works.extend(case.opening.map(Work::Open));
+    works.push(Work::List(Box::new(case.list.clone())));
     works
 }
 
@@ -75,10 +83,12 @@ impl<'a> Sides<'a> {
                 (expected != found).then(|| Trouble::new(expected, found))
             }
             Work::Run(events) => self.run(events),
-            Work::Step(arrays, event) => self.step(arrays, *event),
+            Work::Step(arrays, event) => self.step(arrays, event),
             Work::Agreement(pair) => {
                 outside(history::check_agreement(self.ready_subject.as_mut(), pair))
             }
+            Work::List(list) => self.list(list),
+            Work::Open(room) => self.lent(&Arrays::fresh(), |ready, _| ready.open(*room)),
         }
     }
 
@@ -104,11 +114,55 @@ impl<'a> Sides<'a> {
             }
             let expected = history::play(self.ready_model.as_mut(), events);
             let mut pairs = expected.iter().zip(&story);
-            pairs.find_map(|(expected, told)| difference(expected, told))
+            let single = pairs.find_map(|(expected, told)| difference(expected, told));
+            single.or_else(|| self.at_once(&Arrays::fresh(), events, events.len() / 3))
         })
     }
 
-    fn step(&mut self, arrays: &Arrays, event: Event) -> Option<Trouble> {
+    fn list(&mut self, list: &List) -> Option<Trouble> {
+        let (from, events) = (&list.from, &list.events);
+        self.at_once(from, events, list.answers)
+            .or_else(|| self.lent(from, |ready, after| ready.print(after, events, list.bytes)))
+            .or_else(|| match events.chunks_exact(3).remainder() {
+                [] => None,
+                left_over => self.step(from, left_over),
+            })
+    }
+
+    /// Events at once: their answers and the state after the last that there is room for.
+    fn at_once(&mut self, from: &Arrays, events: &[u8], room: usize) -> Option<Trouble> {
+        self.lent(from, |ready, after| ready.run(after, events, room))
+    }
+
+    /// A call that writes into lent memory: what it writes and what it leaves alone, how much it
+    /// says it wrote, and the state after it.
+    fn lent<T: PartialEq + Display>(
+        &mut self,
+        from: &Arrays,
+        call: impl Fn(&mut dyn Prepared, &mut Arrays) -> Lent<T>,
+    ) -> Option<Trouble> {
+        let told = |ready: &mut dyn Prepared| {
+            let mut after = from.clone();
+            let lent = call(ready, &mut after);
+            (lent, after)
+        };
+        let (expected, then) = told(self.ready_model.as_mut());
+        let (found, after) = told(self.ready_subject.as_mut());
+        let mut cells = expected.cells.iter().zip(&found.cells).enumerate();
+        if let Some((at, (one, other))) = cells.find(|(_, (one, other))| one != other) {
+            let words = |cell: &Option<T>| match cell {
+                Some(item) => format!("cell {at}: {item}"),
+                None => format!("cell {at} left alone"),
+            };
+            return Some(Trouble::new(words(one), words(other)));
+        }
+        if expected.count != found.count {
+            return Some(Trouble::new(expected.count, found.count));
+        }
+        (then != after).then(|| Trouble::new(state(&then), state(&after)))
+    }
+
+    fn step(&mut self, arrays: &Arrays, event: &[u8]) -> Option<Trouble> {
         let told = |ready: &mut dyn Prepared| {
             let mut after = arrays.clone();
             let answer = ready.step(&mut after, event);

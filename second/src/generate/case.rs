@@ -1,6 +1,7 @@
 //! One case of the comparison: a plan file with all that is tried on it, made from one seed.
 
 use super::events::{self, Event};
+use super::lists::{self, List};
 use super::{accepted, broken, faults, states, wild};
 use crate::model::plan::Plan;
 use crate::model::reading::read;
@@ -25,6 +26,11 @@ pub struct Case {
     /// Single events, each from its own state.
     pub steps: Vec<(Arrays, Event)>,
     pub pairs: Vec<Pair>,
+    /// Events at once, with more room than they need or less.
+    pub list: List,
+    /// Now and then the room for the line for the plan, which whole runs try with as much as it
+    /// needs.
+    pub opening: Option<usize>,
 }
 
 /// The case of this seed.
@@ -62,11 +68,17 @@ fn with_readable(random: &mut Random, file: Vec<u8>, plan: &Plan) -> Case {
             events::reckless(random, plan, count)
         }
     };
+    let steps = (0..6).map(|_| single_step(random, plan)).collect();
+    let pairs = pair(random, plan).into_iter().collect();
+    let list = lists::list(random, plan, &events);
+    let opening = lists::opening(random);
     Case {
         plan: file,
         events,
-        steps: (0..6).map(|_| single_step(random, plan)).collect(),
-        pairs: pair(random, plan).into_iter().collect(),
+        steps,
+        pairs,
+        list,
+        opening,
     }
 }
 
@@ -106,10 +118,14 @@ fn with_unreadable(random: &mut Random, file: Vec<u8>) -> Case {
     let fresh = Arrays::fresh();
     let step = |kind: u8| (fresh.clone(), [kind, random.below(2) as u8, 0]);
     let steps = (1..=5).map(step).collect();
+    let list = lists::for_no_plan(random);
+    let opening = lists::opening(random);
     Case {
         plan: file,
         events: vec![3, 0, 1, 1, 0],
         steps,
         pairs: Vec::new(),
+        list,
+        opening,
     }
 }

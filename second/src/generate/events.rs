@@ -106,6 +106,24 @@ pub fn reckless(random: &mut Random, plan: &Plan, count: usize) -> Vec<u8> {
     list(random, plan, count, &manner)
 }
 
+/// A list of whole events that goes on from a state, and the event that would be the next.
+pub fn going_on(
+    random: &mut Random,
+    plan: &Plan,
+    mut state: State,
+    count: usize,
+) -> (Vec<u8>, Event) {
+    let manner = [SMOOTH, FICKLE, GRANTING, RECKLESS][random.below(4)];
+    let mut events = Vec::with_capacity(3 * count + 2);
+    for _ in 0..count {
+        let event = choose(random, plan, &state, &manner);
+        step::step(plan, &mut state, &event);
+        events.extend(event);
+    }
+    let next = choose(random, plan, &state, &manner);
+    (events, next)
+}
+
 fn list(random: &mut Random, plan: &Plan, count: usize, manner: &Manner) -> Vec<u8> {
     let mut state = State::fresh(plan);
     let mut events = Vec::with_capacity(3 * count + 2);

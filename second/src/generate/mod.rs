@@ -8,6 +8,7 @@ mod dress;
 pub mod events;
 pub mod faults;
 pub mod largest;
+pub mod lists;
 mod renumber;
 mod shapes;
 mod sketch;

@@ -2,19 +2,21 @@
 
 mod events;
 mod impostors;
+mod lists;
 mod moves;
 mod reading;
 mod requests;
 mod rules;
 mod states;
 
-use crate::book::{Book, MODEL};
+use crate::book::{Book, Readable, MODEL};
 use crate::compare::driver::{hunt, Mismatch};
-use crate::model::answer::Answer;
+use crate::model::answer::{Answer, Verdict};
 use crate::model::plan::Plan;
 use crate::model::reading::Fault;
 use crate::model::rules::Broken;
 use crate::model::state::{Arrays, State};
+use crate::subject::Lent;
 
 /// More cases than any of them has needed so far; a mutant that gets through them all survives.
 const MOST_CASES: usize = 20_000;
@@ -28,6 +30,9 @@ enum Wrong {
     Step(fn(&Plan, &mut State, &[u8]) -> Answer),
     StepArrays(fn(&Book, &Plan, &mut Arrays, &[u8], &mut State) -> Answer),
     Run(fn(&Book, &[u8], &[u8]) -> Vec<u8>),
+    RunList(fn(&Book, Readable, &mut Arrays, &[u8], usize) -> Lent<Answer>),
+    PrintList(fn(&Book, Readable, &mut Arrays, &[u8], usize) -> Lent<u8>),
+    Open(fn(Verdict, usize) -> Lent<u8>),
 }
 
 /// What is wrong, in words and in deed.
@@ -52,6 +57,9 @@ pub fn all() -> Vec<Mutant> {
         events::ALL,
         moves::ALL,
         impostors::ALL,
+        lists::RUN,
+        lists::PRINT,
+        lists::OPEN,
     ];
     groups.concat().into_iter().map(mutant).collect()
 }
@@ -65,6 +73,9 @@ fn mutant((name, wrong): Slip) -> Mutant {
         Wrong::Step(step) => book.step = step,
         Wrong::StepArrays(step_arrays) => book.step_arrays = step_arrays,
         Wrong::Run(run) => book.run = run,
+        Wrong::RunList(run_list) => book.run_list = run_list,
+        Wrong::PrintList(print_list) => book.print_list = print_list,
+        Wrong::Open(open) => book.open = open,
     }
     Mutant { name, book }
 }

@@ -64,6 +64,10 @@ pub const ALL: &[Slip] = &[
     ),
     ("11 before 10", Wrong::StepArrays(eleven_first)),
     ("10 empties the state", Wrong::StepArrays(ten_empties)),
+    (
+        "an incomplete single event is filled up",
+        Wrong::StepArrays(filled_up),
+    ),
 ];
 
 /// Loads the arrays with what is wrong in them put right.
@@ -141,4 +145,16 @@ fn ten_empties(
         *arrays = Arrays::fresh();
     }
     answer
+}
+
+fn filled_up(
+    book: &Book,
+    plan: &Plan,
+    arrays: &mut Arrays,
+    event: &[u8],
+    spare: &mut State,
+) -> Answer {
+    let mut whole = [0; 3];
+    whole[..event.len()].copy_from_slice(event);
+    book.any_step(plan, arrays, &whole, spare)
 }

@@ -7,13 +7,13 @@ use Rattle.laws.specs.Tables.{tab, length-tab}
 use Rattle.plan.specs.Limits.{mostTracks}
 use Rattle.plan.specs.Image.{planOf}
 use Rattle.act.proofs.Named.{releases-below}
-use Rattle.act.proofs.Acts.{givenBack, back-none, back-more, back-all}
+use Rattle.act.proofs.Acts.{gaveBack, back-none, back-more, back-all}
 use borrow.Author.Needs.{needs}
 use Rattle.act.proofs.arrive.Statement.{statement}
 use Rattle.act.proofs.arrive.Tie as tie
 
 abbrev Inv-loop : tie.InvT-loop
-Inv-loop image to holds₀ count r₀ holds r = (r ≤ count) × (holds ≡ tab mostTracks (givenBack (planOf image) to holds₀ r))
+Inv-loop image to holds₀ count r₀ holds r = (r ≤ count) × (holds ≡ tab mostTracks (gaveBack (planOf image) to holds₀ r))
 
 abbrev μ-loop : tie.MeasureT-loop
 μ-loop image to holds₀ count r₀ holds r = count - r

@@ -8,7 +8,7 @@ use Rattle.laws.specs.Tables.{tab}
 use Rattle.plan.specs.Image.{planOf}
 use Rattle.events.specs.After.{reddened}
 use Rattle.act.proofs.Walks.{upTo, done-none, done-length, done-set, done-same, done-all}
-use Rattle.state.proofs.Cells.{signals-most}
+use Rattle.state.proofs.Tests.{signals-most}
 use Rattle.act.proofs.Acts.{red-here, red-other, red-beyond}
 use borrow.Author.Needs.{needs}
 use Rattle.act.proofs.redden.Statement.{statement}

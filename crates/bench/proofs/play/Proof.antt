@@ -7,10 +7,10 @@ use Rattle.bench.proofs.play.Statement.{statement}
 use Rattle.bench.proofs.play.Tie as tie
 
 abbrev Inv-loop : tie.InvT-loop
-Inv-loop plan trains₀ lies₀ holds₀ signals₀ turns₀ trains lies holds signals turns = Unit {0}
+Inv-loop plan cells₀ holds₀ turns₀ cells holds turns = Unit {0}
 
 abbrev μ-loop : tie.MeasureT-loop
-μ-loop plan trains₀ lies₀ holds₀ signals₀ turns₀ trains lies holds signals turns = turns
+μ-loop plan cells₀ holds₀ turns₀ cells holds turns = turns
 
 loop-holds : tie.Need-loop-holds Inv-loop μ-loop
 loop-holds c = search needs
@@ -37,7 +37,7 @@ array-share-prefix-lines : tie.Need-array-share-prefix-lines Inv-loop μ-loop
 array-share-prefix-lines c = search needs
 
 slice-aggregate-write-all : tie.Need-slice-aggregate-write-all Inv-loop μ-loop
-slice-aggregate-write-all c = sym (length-take-le _ (c .before .before .signalbox-print .last .1 .1 .1 .1 .1 .1 .0) (omega (arith, c .before .before .signalbox-print .ensures .lines .within, c .before .before .signalbox-print .kept .1 .1 .1 .1 .1 .1 .0)))
+slice-aggregate-write-all c = sym (length-take-le _ (c .before .before .signalbox-print .last .1 .1 .1 .1 .0) (omega (arith, c .before .before .signalbox-print .ensures .written .within, c .before .before .signalbox-print .kept .1 .1 .1 .1 .0)))
 
 write-all-requires : tie.Need-write-all-requires Inv-loop μ-loop
 write-all-requires c κs = search needs

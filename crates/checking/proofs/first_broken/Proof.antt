@@ -1,6 +1,6 @@
 -- `checking::first_broken`: rule 3 by its pairs, any other row by row.
 use Rattle.checking.proofs.Table.{by-number}
-use Rattle.rules.specs.Rules.{rules, ruleOf, lowestBroken}
+use Rattle.rules.specs.Verdict.{rules, ruleOf, lowestBroken}
 use Rattle.plan.specs.Image.{planOf}
 use denote.Ref.{now}
 use mathlib.Core.Path.{_∙_}

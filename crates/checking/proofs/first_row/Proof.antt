@@ -1,13 +1,12 @@
 -- `checking::first_row`: the lowest row from here on that breaks the rule is the lowest of all.
-use borrow.Author.Tests.{not-true, not-false}
 use Rattle.laws.specs.Chains.{same-not}
-use Rattle.rules.specs.Rules.{ruleOf, lowestBroken}
+use Rattle.rules.specs.Verdict.{ruleOf, lowestBroken}
 use Rattle.plan.specs.Image.{planOf}
 use Rattle.laws.specs.Search.{lowest, lowestFrom, lowest-hit, lowest-miss, lowest-end, lowest-start}
 use denote.Ref.{now}
 use Prim.Native.Nat.{ℕ, _-_}
 use mathlib.Core.Bool.{not}
-use mathlib.Core.Path.{_≡_, refl, sym, ap, _∙_}
+use mathlib.Core.Path.{_≡_, sym, ap, _∙_}
 use borrow.Author.Needs.{needs}
 use Rattle.checking.proofs.first_row.Statement.{statement}
 use Rattle.checking.proofs.first_row.Tie as tie

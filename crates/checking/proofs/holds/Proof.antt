@@ -1,11 +1,12 @@
-use Rattle.checking.proofs.Table.{by-number, no-rule, past}
--- `checking::holds`: by the rule's number, the table's test of the row.
+-- `checking::holds`: by the rule's number, the list's test of the row.
 use Rattle.checking.proofs.Table.{by-number, no-rule}
-use Rattle.rules.specs.Rules.{Rule, rules, ruleOf}
+use Rattle.laws.specs.Lists.{anyOf, has}
+use Rattle.laws.specs.Search.{allBelow}
+use Rattle.rules.specs.Verdict.{Rule, rules, ruleOf}
 use Rattle.plan.specs.Image.{planOf}
 use denote.Ref.{now}
-use native.Mathlib.Omega.{arith}
-use mathlib.Core.Path.{_≡_, ap, _∙_}
+use mathlib.Core.List.{[], _∷_}
+use mathlib.Core.Path.{refl, ap, _∙_}
 use borrow.Author.Needs.{needs}
 use Rattle.checking.proofs.holds.Statement.{statement}
 use Rattle.checking.proofs.holds.Tie as tie
@@ -88,8 +89,9 @@ unfolding ruleOf rules
 returns-11 c = c .entry-cleared .ensures ∙ by-number (planOf (now (c .before .before .args .image))) (λ (k : Rule). k .test (c .before .before .args .row)) 12 (c .before .match .keys11)
 
 returns-12 : tie.Need-returns-12
+unfolding allBelow has anyOf rules
 returns-12 c = ap (λ (k : Rule). k .test (c .before .args .row))
-    (no-rule (planOf (now (c .before .args .image))) _ (λ a b. omega (arith, past 12 (past 11 (past 10 (past 9 (past 8 (past 7 (past 6 (past 5 (past 4 (past 3 (past 2 (past 1 a (c .match .rest .0 .0 .0 .0 .0 .0 .0 .0 .0 .0 .1)) (c .match .rest .0 .0 .0 .0 .0 .0 .0 .0 .0 .1)) (c .before .pre)) (c .match .rest .0 .0 .0 .0 .0 .0 .0 .0 .1)) (c .match .rest .0 .0 .0 .0 .0 .0 .0 .1)) (c .match .rest .0 .0 .0 .0 .0 .0 .1)) (c .match .rest .0 .0 .0 .0 .0 .1)) (c .match .rest .0 .0 .0 .0 .1)) (c .match .rest .0 .0 .0 .1)) (c .match .rest .0 .0 .1)) (c .match .rest .0 .1)) (c .match .rest .1))))
+    (no-rule (planOf (now (c .before .args .image))) (3 ∷ 12 ∷ 11 ∷ 10 ∷ 9 ∷ 8 ∷ 7 ∷ 6 ∷ 5 ∷ 4 ∷ 2 ∷ 1 ∷ []) _ refl (c .match .rest, c .before .pre))
 
 pub holds-spec : {M : Type 1} → statement M
 holds-spec =

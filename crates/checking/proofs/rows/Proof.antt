@@ -1,13 +1,12 @@
-use Prim.Native.Nat.{ℕ}
-use mathlib.Core.Logic.{⊎-elim, inl, inr}
--- `checking::rows`: by the rule's number, the table's count.
-use Rattle.checking.proofs.Table.{by-number, no-rule, track-rows, route-rows}
-use Rattle.rules.specs.Rules.{Rule, rules, ruleOf}
+-- `checking::rows`: by the rule's number, the list's count.
+use Rattle.checking.proofs.Table.{by-number, same-rows, past-rules}
+use Rattle.rules.specs.Verdict.{Rule, rules, ruleOf}
 use Rattle.plan.specs.Image.{planOf}
 use denote.Ref.{now}
 use native.Mathlib.Omega.{arith}
-use mathlib.Core.Logic.{⊎-elim}
-use mathlib.Core.Path.{_≡_, ap, _∙_}
+use Prim.Native.Nat.{_<_}
+use mathlib.Core.Logic.{⊎-elim, inl, inr}
+use mathlib.Core.Path.{_≡_, refl, ap, _∙_}
 use borrow.Author.Needs.{needs}
 use Rattle.checking.proofs.rows.Statement.{statement}
 use Rattle.checking.proofs.rows.Tie as tie
@@ -34,19 +33,23 @@ returns-2 c = c .entries .ensures ∙ ⊎-elim (λ e. by-number (planOf (now (c 
     (λ e. by-number (planOf (now (c .before .before .args .image))) (λ (k : Rule). k .rows) 12 e) (c .before .match .keys2)
 
 returns-3 : tie.Need-returns-3
-returns-3 c = c .tracks .ensures ∙ track-rows (planOf (now (c .before .before .before .before .args .image))) _ (omega arith) (omega arith)
+unfolding rules
+returns-3 c = c .tracks .ensures ∙ same-rows (planOf (now (c .before .before .before .before .args .image))) 1 3 refl (c .before .before .if1 .left) (c .before .if2 .taken)
 
 returns-4 : tie.Need-returns-4
+unfolding rules
 returns-4 c = let n : (c .before .before .before .before .before .args .rule ≡ 5 → ⊥) = λ e. c .before .before .before .before .match .rest .1 (inl e) in
-    c .routes .ensures ∙ route-rows (planOf (now (c .before .before .before .before .before .args .image))) _ (omega (arith, c .before .before .before .before .match .rest .0 .1)) (omega arith)
+    c .routes .ensures ∙ same-rows (planOf (now (c .before .before .before .before .before .args .image))) 6 6 refl (omega (arith, c .before .before .before .before .match .rest .0 .1)) (c .before .if3 .taken)
 
 returns-5 : tie.Need-returns-5
-returns-5 c = ap (λ (k : Rule). k .rows) (no-rule (planOf (now (c .before .before .args .image))) _ (λ a b. omega arith))
+unfolding rules
+returns-5 c = same-rows (planOf (now (c .before .before .args .image))) 0 1 refl (omega arith) (c .if1 .taken)
 
 returns-6 : tie.Need-returns-6
+unfolding rules
 returns-6 c = let n : (c .before .before .before .before .args .rule ≡ 12 → ⊥) = λ e. c .before .before .before .match .rest .1 (inr e) in
-    let m : (c .before .before .before .before .args .rule ≡ 5 → ⊥) = λ e. c .before .before .before .match .rest .1 (inl e) in
-    ap (λ (k : Rule). k .rows) (no-rule (planOf (now (c .before .before .before .before .args .image))) _ (λ a b. omega (arith, c .before .before .before .match .rest .0 .1)))
+    let h : 12 < c .before .before .before .before .args .rule = omega arith in
+    ap (λ (k : Rule). k .rows) (past-rules (planOf (now (c .before .before .before .before .args .image))) h)
 
 pub rows-spec : {M : Type 1} → statement M
 rows-spec =

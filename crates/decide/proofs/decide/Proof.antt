@@ -35,10 +35,10 @@ returns : tie.Need-returns
 returns c = rw (c .before .before .event .given .1) (c .decide-request .ensures)
 
 returns-2 : tie.Need-returns-2
-returns-2 c = rw (c .before .before .event2 .given .1) (c .decide-cancel .ensures _ _)
+returns-2 c = rw (c .before .before .event2 .given .1) (c .decide-cancel .ensures _)
 
 returns-3 : tie.Need-returns-3
-returns-3 c = rw (c .before .before .event3 .given .1) (c .decide-enter .ensures _ _ _)
+returns-3 c = rw (c .before .before .event3 .given .1) (c .decide-enter .ensures _)
 
 returns-4 : tie.Need-returns-4
 returns-4 c = rw (c .before .before .event4 .given .1) (c .decide-move .ensures _)

@@ -5,6 +5,7 @@ use denote.Ref.{now}
 use Rattle.laws.specs.Search.{lowest-at}
 use Rattle.decide.proofs.Within.{next-within}
 use Rattle.decide.proofs.Chains.{move-11, move-18, move-19, move-left, move-on}
+use Rattle.state.specs.Cells.{liesIn}
 use borrow.Author.Needs.{needs}
 use Rattle.decide.proofs.decide_move.Statement.{statement}
 use Rattle.decide.proofs.decide_move.Tie as tie
@@ -49,7 +50,7 @@ next-track-requires : tie.Need-next-track-requires
 next-track-requires c κs = omega (arith, lowest-at _ _ (sym (c .before .before .before .before .before .before .before .before .front-of .ensures) ∙ c .before .before .before .before .before .before .front .given .1) .below, c .before .before .before .before .before .before .before .before .before .tracks .ensures, c .before .before .before .before .before .before .before .before .before .before .before .pre .tracks .few)
 
 move-to-requires : tie.Need-move-to-requires
-move-to-requires c κs = omega (arith, c .next-track .ensures, next-within (c .before .before .before .before .before .before .before .before .before .before .before .before .pre) (rw (c .before .before .before .before .before .before .before .before .before .before .tracks .ensures) at (lowest-at _ _ (sym (c .before .before .before .before .before .before .before .before .before .front-of .ensures) ∙ c .before .before .before .before .before .before .before .front .given .1) .below)) (sym (c .before .before .is-exit .ensures) ∙ c .before .if2 .left) (now (c .before .before .before .before .before .before .before .before .before .before .before .before .args .lies)), c .before .before .before .before .before .before .before .before .before .before .before .before .pre .tracks .few)
+move-to-requires c κs = omega (arith, c .next-track .ensures, next-within (c .before .before .before .before .before .before .before .before .before .before .before .before .pre) (rw (c .before .before .before .before .before .before .before .before .before .before .tracks .ensures) at (lowest-at _ _ (sym (c .before .before .before .before .before .before .before .before .before .front-of .ensures) ∙ c .before .before .before .before .before .before .before .front .given .1) .below)) (sym (c .before .before .is-exit .ensures) ∙ c .before .if2 .left) (liesIn (now (c .before .before .before .before .before .before .before .before .before .before .before .before .args .cells))), c .before .before .before .before .before .before .before .before .before .before .before .before .pre .tracks .few)
 
 returns-5 : tie.Need-returns-5
 returns-5 c = λ holds. move-on _ _ _ holds _ _ (c .before .before .before .before .before .before .before .before .before .before .before .before .if1 .left) (c .before .before .before .before .before .before .before .before .before .before .before .tracks .ensures) (c .before .before .before .before .before .before .before .before .before .before .front-of .ensures) (c .before .before .before .before .before .before .before .before .front .given .1) (c .before .before .before .before .before .before .red-at .ensures) (c .before .before .before .before .enum-told2 .given .1) (c .before .before .before .is-exit .ensures) (c .before .before .if2 .left) (c .before .next-track .ensures) (c .move-to .ensures)

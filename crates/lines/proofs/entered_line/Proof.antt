@@ -1,8 +1,8 @@
 -- `entered_line`: the train, then the track where it stands, each after its word.
 use mathlib.Core.Path.{refl}
 use native.Mathlib.Omega.{arith}
-use Rattle.events.specs.Answers.{answerValues}
-use Rattle.lines.specs.Lines.{bytesOf, line, answerWords, tableNumber, answerLine}
+use Rattle.events.specs.Answers.{deedValues, answerValues}
+use Rattle.lines.specs.Lines.{bytesOf, line, deedWords, answerWords, tableNumber, answerLine}
 use Rattle.lines.proofs.entered_line.Statement.{statement}
 use Rattle.lines.proofs.entered_line.Tie as tie
 
@@ -22,7 +22,7 @@ same-length : tie.Need-same-length
 same-length c = c .before .before .line-of-two .kept .1 .1 .1 .1 .0
 
 returns : tie.Need-returns
-unfolding answerLine answerWords tableNumber answerValues line bytesOf
+unfolding answerLine answerWords deedWords tableNumber answerValues deedValues line bytesOf
 returns c = rw (← c .before .before .before .before .before .wide .ensures) (c .before .before .line-of-two .ensures)
 
 pub entered-line-spec : {M : Type 1} → statement M

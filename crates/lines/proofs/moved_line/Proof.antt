@@ -1,6 +1,6 @@
 -- `moved_line`: the train, then the tracks that it left and reached, each after its word.
-use Rattle.events.specs.Answers.{answerValues}
-use Rattle.lines.specs.Lines.{bytesOf, line, answerWords, tableNumber, answerLine}
+use Rattle.events.specs.Answers.{deedValues, answerValues}
+use Rattle.lines.specs.Lines.{bytesOf, line, deedWords, answerWords, tableNumber, answerLine}
 use Rattle.lines.proofs.Runs.{wrote-then, room-after}
 use Prim.Native.Nat.{_+_}
 use Rattle.lines.specs.Decimal.{numberMost}
@@ -34,7 +34,7 @@ same-length : tie.Need-same-length
 same-length c = search needs
 
 returns : tie.Need-returns
-unfolding answerLine answerWords tableNumber answerValues line bytesOf
+unfolding answerLine answerWords deedWords tableNumber answerValues deedValues line bytesOf
 returns c = rw (← c .before .before .before .before .before .before .before .before .before .before .wide .ensures) (wrote-then (c .before .before .before .before .before .before .before .before .put-number .ensures) (c .before .before .line-of-two .ensures))
 
 pub moved-line-spec : {M : Type 1} → statement M

@@ -1,6 +1,6 @@
 -- `signalbox::incomplete_too`: three bytes to an event, and one more where bytes are left over.
 use denote.Ref.{now}
-use Rattle.signalbox.proofs.Printing.{count-whole, count-more}
+use Rattle.signalbox.proofs.Playing.{count-whole, count-more}
 use borrow.Author.Needs.{needs}
 use Rattle.signalbox.proofs.incomplete_too.Statement.{statement}
 use Rattle.signalbox.proofs.incomplete_too.Tie as tie

@@ -1,7 +1,7 @@
 -- `signalbox::signalbox_open`: the line of what reading or checking finds.
 use denote.Ref.{now}
 use Rattle.signalbox.proofs.Faced.{unread, was-read}
-use Rattle.signalbox.proofs.Printing.{no-room, opened-form, opened-plan}
+use Rattle.signalbox.proofs.Opening.{no-room, opened-form, opened-plan}
 use borrow.Author.Needs.{needs}
 use Rattle.signalbox.proofs.signalbox_open.Statement.{statement}
 use Rattle.signalbox.proofs.signalbox_open.Tie as tie

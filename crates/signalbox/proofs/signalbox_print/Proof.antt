@@ -1,23 +1,24 @@
 -- `signalbox::signalbox_print`: the lines so far are those of the answers so far.
-use mathlib.Core.Path.{_≡_, refl, sym, ap, _∙_}
 use Prim.Native.Nat.{_-_}
 use native.Mathlib.Omega.{arith}
 use lib.ListN.{length}
 use denote.Ref.{now}
-use Rattle.laws.specs.Tests.{not-t, not-f}
-use Rattle.plan.specs.Image.{planOf}
-use Rattle.state.specs.State.{stateOf}
-use Rattle.signalbox.proofs.Faced.{unread, was-read, readable-image, ready}
-use Rattle.signalbox.proofs.Printing.{Lining, lining-start, lining-room, lining-turn, printed-unread, printed-ill, printed-all}
+use Rattle.state.specs.Cells.{stateIn}
+use Rattle.lines.specs.Lines.{answerLine, lineMost}
+use Rattle.lines.proofs.Most.{answer-most}
+use Rattle.signalbox.specs.Face.{printMost}
+use Rattle.signalbox.proofs.Faced.{unread, was-read}
+use Rattle.signalbox.proofs.Playing.{Playing, print-counted, playing-start, playing-readable, playing-same, playing-room, playing-turn, played-unread, played-ill, played-all}
 use borrow.Author.Needs.{needs}
 use Rattle.signalbox.proofs.signalbox_print.Statement.{statement}
 use Rattle.signalbox.proofs.signalbox_print.Tie as tie
 
 abbrev Inv-loop : tie.InvT-loop
-Inv-loop file trains₀ lies₀ holds₀ signals₀ events out₀ image count at₀ i₀ trains lies holds signals out at i = Lining (planOf image) events out₀ (stateOf trains₀ lies₀ holds₀ signals₀) count i (stateOf trains lies holds signals) out at
+Inv-loop file cells₀ holds₀ events out₀ image count at₀ i₀ cells holds out at i =
+    Playing answerLine (printMost (length out₀)) lineMost file image events (stateIn cells₀ holds₀) out₀ count i (stateIn cells holds) out at
 
 abbrev μ-loop : tie.MeasureT-loop
-μ-loop file trains₀ lies₀ holds₀ signals₀ events out₀ image count at₀ i₀ trains lies holds signals out at i = count - i
+μ-loop file cells₀ holds₀ events out₀ image count at₀ i₀ cells holds out at i = count - i
 
 read-requires : tie.Need-read-requires Inv-loop μ-loop
 read-requires c κs = search needs
@@ -29,13 +30,20 @@ enum-told-2 : tie.Need-enum-told-2 Inv-loop μ-loop
 enum-told-2 c = search needs
 
 returns : tie.Need-returns Inv-loop μ-loop
-returns c = printed-unread (now (c .before .before .before .before .before .before .before .args .file)) (now (c .before .before .before .before .before .before .before .args .events)) (now (c .before .before .before .before .before .before .before .args .out)) (stateOf (now (c .before .before .before .before .before .before .before .args .trains)) (now (c .before .before .before .before .before .before .before .args .lies)) (now (c .before .before .before .before .before .before .before .args .holds)) (now (c .before .before .before .before .before .before .before .args .signals))) (unread (now (c .before .before .before .before .before .before .before .args .file)) _ (c .before .before .read .ensures) (c .enum-told2 .given .1))
+returns c =
+    let args = c .before .before .before .before .before .before .before .args in
+    played-unread answerLine (printMost (length (now (args .out)))) (now (args .file)) (now (args .events)) (stateIn (now (args .cells)) (now (args .holds))) (now (args .out))
+    (unread (now (args .file)) _ (c .before .before .read .ensures) (c .enum-told2 .given .1))
 
 well-formed-requires : tie.Need-well-formed-requires Inv-loop μ-loop
 well-formed-requires c κs = search needs
 
 returns-2 : tie.Need-returns-2 Inv-loop μ-loop
-returns-2 c = printed-ill (now (c .before .before .before .before .before .before .before .before .before .before .before .before .before .before .args .file)) (now (c .before .before .before .before .before .before .before .before .before .before .before .before .before .before .args .events)) (now (c .before .before .before .before .before .before .before .before .before .before .before .before .before .before .args .out)) (stateOf (now (c .before .before .before .before .before .before .before .before .before .before .before .before .before .before .args .trains)) (now (c .before .before .before .before .before .before .before .before .before .before .before .before .before .before .args .lies)) (now (c .before .before .before .before .before .before .before .before .before .before .before .before .before .before .args .holds)) (now (c .before .before .before .before .before .before .before .before .before .before .before .before .before .before .args .signals))) (was-read (now (c .before .before .before .before .before .before .before .before .before .before .before .before .before .before .args .file)) _ (c .before .before .before .before .before .before .before .before .before .read .ensures) (c .before .before .before .before .before .before .before .enum-told .given .1)) (sym (c .before .well-formed .ensures) ∙ not-t _ (c .if1 .taken))
+returns-2 c =
+    let told = c .before .before .before .before .before in
+    let args = told .before .before .before .before .before .before .before .args in
+    played-ill answerLine (printMost (length (now (args .out)))) (now (args .file)) (now (args .events)) (stateIn (now (args .cells)) (now (args .holds))) (now (args .out))
+    (was-read (now (args .file)) _ (told .before .before .read .ensures) (told .enum-told .given .1)) (c .before .well-formed .ensures) (c .if1 .taken)
 
 incomplete-too-requires : tie.Need-incomplete-too-requires Inv-loop μ-loop
 incomplete-too-requires c κs = search needs
@@ -44,22 +52,23 @@ least-requires : tie.Need-least-requires Inv-loop μ-loop
 least-requires c κs = search needs
 
 loop-holds : tie.Need-loop-holds Inv-loop μ-loop
-loop-holds c = lining-start _ (now (c .before .before .before .before .before .before .before .before .before .before .before .before .before .before .before .before .args .events)) (now (c .before .before .before .before .before .before .before .before .before .before .before .before .before .before .before .before .args .out)) (stateOf (now (c .before .before .before .before .before .before .before .before .before .before .before .before .before .before .before .before .args .trains)) (now (c .before .before .before .before .before .before .before .before .before .before .before .before .before .before .before .before .args .lies)) (now (c .before .before .before .before .before .before .before .before .before .before .before .before .before .before .before .before .args .holds)) (now (c .before .before .before .before .before .before .before .before .before .before .before .before .before .before .before .before .args .signals))) (c .before .incomplete-too .ensures) (c .least .ensures) (sym (c .before .before .before .well-formed .ensures) ∙ not-f _ (c .before .before .if1 .left))
+loop-holds c =
+    let told = c .before .before .before .before .before .before .before in
+    let args = told .before .before .before .before .before .before .before .args in
+    playing-start (was-read (now (args .file)) _ (told .before .before .read .ensures) (told .enum-told .given .1))
+    (print-counted (now (args .events)) (c .before .incomplete-too .ensures) (c .least .ensures)) (c .before .before .before .well-formed .ensures) (c .before .before .if1 .left)
 
 mul-event-at : tie.Need-mul-event-at Inv-loop μ-loop
-mul-event-at c = omega (arith, lining-room (planOf _) (now (c .before .before .before .before .before .before .before .before .before .before .before .before .before .before .before .before .before .before .before .before .before .before .before .args .events)) (now (c .before .before .before .before .before .before .before .before .before .before .before .before .before .before .before .before .before .before .before .before .before .before .before .args .out)) (stateOf (now (c .before .before .before .before .before .before .before .before .before .before .before .before .before .before .before .before .before .before .before .before .before .before .before .args .trains)) (now (c .before .before .before .before .before .before .before .before .before .before .before .before .before .before .before .before .before .before .before .before .before .before .before .args .lies)) (now (c .before .before .before .before .before .before .before .before .before .before .before .before .before .before .before .before .before .before .before .before .before .before .before .args .holds)) (now (c .before .before .before .before .before .before .before .before .before .before .before .before .before .before .before .before .before .before .before .before .before .before .before .args .signals))) (c .before .before .before .before .before .before .before .before .incomplete-too .ensures) (c .before .before .before .before .before .before .before .least .ensures) (c .before .before .before .before .before .before .loop .inv) (c .before .before .before .before .before .loop-test .taken) .1)
+mul-event-at c = omega (arith, playing-room (c .before .before .before .before .loop .inv) (c .before .before .before .loop-test .taken) .1)
 
 event-at-requires : tie.Need-event-at-requires Inv-loop μ-loop
 event-at-requires c κs = search needs
 
-decide-requires : tie.Need-decide-requires Inv-loop μ-loop
-decide-requires c κs = readable-image (was-read (now (c .before .before .before .before .before .before .before .before .before .before .before .before .before .before .before .before .before .before .before .before .before .before .before .before .args .file)) _ (c .before .before .before .before .before .before .before .before .before .before .before .before .before .before .before .before .before .before .before .read .ensures) (c .before .before .before .before .before .before .before .before .before .before .before .before .before .before .before .before .before .enum-told .given .1))
-
-act-requires : tie.Need-act-requires Inv-loop μ-loop
-act-requires c κs = ready (was-read (now (c .before .before .before .before .before .before .before .before .before .before .before .before .before .before .before .before .before .before .before .before .before .before .before .before .before .before .before .before .before .before .args .file)) _ (c .before .before .before .before .before .before .before .before .before .before .before .before .before .before .before .before .before .before .before .before .before .before .before .before .before .read .ensures) (c .before .before .before .before .before .before .before .before .before .before .before .before .before .before .before .before .before .before .before .before .before .before .before .enum-told .given .1)) (stateOf (c .before .before .before .before .before .before .before .before .before .before .before .before .before .loop .trains) (c .before .before .before .before .before .before .before .before .before .before .before .before .before .loop .lies) (c .before .before .before .before .before .before .before .before .before .before .before .before .before .loop .holds) (c .before .before .before .before .before .before .before .before .before .before .before .before .before .loop .signals)) _ (c .before .before .before .before .before .decide .ensures)
+play-requires : tie.Need-play-requires Inv-loop μ-loop
+play-requires c κs = playing-readable (c .before .before .before .before .before .loop .inv)
 
 answer-line-requires : tie.Need-answer-line-requires Inv-loop μ-loop
-answer-line-requires c κs = lining-room (planOf _) (now (c .before .before .before .before .before .before .before .before .before .before .before .before .before .before .before .before .before .before .before .before .before .before .before .before .before .before .before .before .before .before .before .before .args .events)) (now (c .before .before .before .before .before .before .before .before .before .before .before .before .before .before .before .before .before .before .before .before .before .before .before .before .before .before .before .before .before .before .before .before .args .out)) (stateOf (now (c .before .before .before .before .before .before .before .before .before .before .before .before .before .before .before .before .before .before .before .before .before .before .before .before .before .before .before .before .before .before .before .before .args .trains)) (now (c .before .before .before .before .before .before .before .before .before .before .before .before .before .before .before .before .before .before .before .before .before .before .before .before .before .before .before .before .before .before .before .before .args .lies)) (now (c .before .before .before .before .before .before .before .before .before .before .before .before .before .before .before .before .before .before .before .before .before .before .before .before .before .before .before .before .before .before .before .before .args .holds)) (now (c .before .before .before .before .before .before .before .before .before .before .before .before .before .before .before .before .before .before .before .before .before .before .before .before .before .before .before .before .before .before .before .before .args .signals))) (c .before .before .before .before .before .before .before .before .before .before .before .before .before .before .before .before .before .incomplete-too .ensures) (c .before .before .before .before .before .before .before .before .before .before .before .before .before .before .before .before .least .ensures) (c .before .before .before .before .before .before .before .before .before .before .before .before .before .before .before .loop .inv) (c .before .before .before .before .before .before .before .before .before .before .before .before .before .before .loop-test .taken) .0
+answer-line-requires c κs = playing-room (c .before .before .before .before .before .before .before .loop .inv) (c .before .before .before .before .before .before .loop-test .taken) .0
 
 add-i : tie.Need-add-i Inv-loop μ-loop
 add-i c = search needs
@@ -68,13 +77,15 @@ loop-less : tie.Need-loop-less Inv-loop μ-loop
 loop-less c = search needs
 
 loop-again : tie.Need-loop-again Inv-loop μ-loop
-loop-again c = lining-turn (planOf _) (now (c .before .before .before .before .before .before .before .before .before .before .before .before .before .before .before .before .before .before .before .before .before .before .before .before .before .before .before .before .before .before .before .before .before .before .before .args .events)) (now (c .before .before .before .before .before .before .before .before .before .before .before .before .before .before .before .before .before .before .before .before .before .before .before .before .before .before .before .before .before .before .before .before .before .before .before .args .out)) (stateOf (now (c .before .before .before .before .before .before .before .before .before .before .before .before .before .before .before .before .before .before .before .before .before .before .before .before .before .before .before .before .before .before .before .before .before .before .before .args .trains)) (now (c .before .before .before .before .before .before .before .before .before .before .before .before .before .before .before .before .before .before .before .before .before .before .before .before .before .before .before .before .before .before .before .before .before .before .before .args .lies)) (now (c .before .before .before .before .before .before .before .before .before .before .before .before .before .before .before .before .before .before .before .before .before .before .before .before .before .before .before .before .before .before .before .before .before .before .before .args .holds)) (now (c .before .before .before .before .before .before .before .before .before .before .before .before .before .before .before .before .before .before .before .before .before .before .before .before .before .before .before .before .before .before .before .before .before .before .before .args .signals))) (c .before .before .before .before .before .before .before .before .before .before .before .before .before .before .before .before .before .before .before .before .incomplete-too .ensures) (c .before .before .before .before .before .before .before .before .before .before .before .before .before .before .before .before .before .before .before .least .ensures) (c .before .before .before .before .before .before .before .before .before .before .before .before .before .before .before .before .before .before .loop .inv) (readable-image (was-read (now (c .before .before .before .before .before .before .before .before .before .before .before .before .before .before .before .before .before .before .before .before .before .before .before .before .before .before .before .before .before .before .before .before .before .before .before .args .file)) _ (c .before .before .before .before .before .before .before .before .before .before .before .before .before .before .before .before .before .before .before .before .before .before .before .before .before .before .before .before .before .before .read .ensures) (c .before .before .before .before .before .before .before .before .before .before .before .before .before .before .before .before .before .before .before .before .before .before .before .before .before .before .before .before .enum-told .given .1))) (c .before .before .before .before .before .before .before .before .before .before .before .before .before .before .before .before .before .loop-test .taken) (rw (c .before .before .before .before .before .before .before .before .before .before .before .event-at .ensures) at (c .before .before .before .before .before .before .before .before .before .before .decide .ensures)) (c .before .before .before .before .act .ensures) (c .before .before .answer-line .ensures)
+loop-again c =
+    let e = c .before .before .before .before .before .event-at .ensures in
+    playing-turn (c .before .before .before .before .before .before .before .before .before .before .loop .inv) (c .before .before .before .before .before .before .before .before .before .loop-test .taken) answer-most (rw e at (c .before .before .before .before .play .ensures .0)) (rw e at (c .before .before .before .before .play .ensures .1)) (c .before .before .answer-line .ensures)
 
 same-length : tie.Need-same-length Inv-loop μ-loop
-same-length c = c .before .loop .inv .same
+same-length c = playing-same (c .before .loop .inv)
 
 returns-3 : tie.Need-returns-3 Inv-loop μ-loop
-returns-3 c = printed-all (now (c .before .before .before .before .before .before .before .before .before .before .before .before .before .before .before .before .before .before .args .file)) (now (c .before .before .before .before .before .before .before .before .before .before .before .before .before .before .before .before .before .before .args .events)) (now (c .before .before .before .before .before .before .before .before .before .before .before .before .before .before .before .before .before .before .args .out)) (stateOf (now (c .before .before .before .before .before .before .before .before .before .before .before .before .before .before .before .before .before .before .args .trains)) (now (c .before .before .before .before .before .before .before .before .before .before .before .before .before .before .before .before .before .before .args .lies)) (now (c .before .before .before .before .before .before .before .before .before .before .before .before .before .before .before .before .before .before .args .holds)) (now (c .before .before .before .before .before .before .before .before .before .before .before .before .before .before .before .before .before .before .args .signals))) (was-read (now (c .before .before .before .before .before .before .before .before .before .before .before .before .before .before .before .before .before .before .args .file)) _ (c .before .before .before .before .before .before .before .before .before .before .before .before .before .read .ensures) (c .before .before .before .before .before .before .before .before .before .before .before .enum-told .given .1)) (c .before .before .before .incomplete-too .ensures) (c .before .before .least .ensures) (sym (c .before .before .before .before .before .well-formed .ensures) ∙ not-f _ (c .before .before .before .before .if1 .left)) (c .before .loop .inv) (c .loop-test .left)
+returns-3 c = played-all (c .before .loop .inv) (c .loop-test .left)
 
 pub signalbox-print-spec : {M : Type 1} → statement M
 signalbox-print-spec =
@@ -93,8 +104,7 @@ signalbox-print-spec =
     loop-holds
     mul-event-at
     event-at-requires
-    decide-requires
-    act-requires
+    play-requires
     answer-line-requires
     add-i
     loop-less

@@ -1,8 +1,8 @@
--- `signalbox::signalbox_step`: the plan is read, the state is tested, the event is decided and acted on; each way out is the definition's.
+-- `signalbox::signalbox_step`: the plan is read, the state is tested, the event is played; each way out is the definition's.
 use denote.Ref.{now}
-use Rattle.state.specs.State.{stateOf}
+use Rattle.state.specs.Cells.{stateIn}
 use Rattle.events.specs.Events.{firstEvent}
-use Rattle.signalbox.proofs.Faced.{was-read, step-refused, readable-image, ready, is-formed, ill-formed, stepped}
+use Rattle.signalbox.proofs.Faced.{was-read, step-refused, readable-image, is-formed, ill-formed, stepped}
 use borrow.Author.Needs.{needs}
 use Rattle.signalbox.proofs.signalbox_step.Statement.{statement}
 use Rattle.signalbox.proofs.signalbox_step.Tie as tie
@@ -17,7 +17,11 @@ form-code-requires : tie.Need-form-code-requires
 form-code-requires c κs = search needs
 
 returns : tie.Need-returns
-returns c = step-refused (now (c .before .before .before .before .before .before .before .before .args .file)) _ (c .before .before .before .before .read .ensures) (stateOf (now (c .before .before .before .before .before .before .before .before .args .trains)) (now (c .before .before .before .before .before .before .before .before .args .lies)) (now (c .before .before .before .before .before .before .before .before .args .holds)) (now (c .before .before .before .before .before .before .before .before .args .signals))) (firstEvent (now (c .before .before .before .before .before .before .before .before .args .event))) (c .before .before .seen .given .1) (c .form-code .ensures)
+returns c =
+    let seen = c .before .before in
+    let args = seen .before .before .before .before .before .before .args in
+    step-refused (now (args .file)) _ (seen .before .before .read .ensures) (stateIn (now (args .cells)) (now (args .holds))) (firstEvent (now (args .event))) (seen .seen .given .1)
+    (c .form-code .ensures)
 
 enum-told : tie.Need-enum-told
 enum-told c = search needs
@@ -29,22 +33,33 @@ refusal-code-requires : tie.Need-refusal-code-requires
 refusal-code-requires c κs = search needs
 
 returns-2 : tie.Need-returns-2
-returns-2 c = ill-formed (was-read (now (c .before .before .before .before .before .before .before .before .before .before .before .before .before .before .args .file)) _ (c .before .before .before .before .before .before .before .before .before .before .read .ensures) (c .before .before .before .before .before .before .before .before .enum-told .given .1)) (stateOf (now (c .before .before .before .before .before .before .before .before .before .before .before .before .before .before .args .trains)) (now (c .before .before .before .before .before .before .before .before .before .before .before .before .before .before .args .lies)) (now (c .before .before .before .before .before .before .before .before .before .before .before .before .before .before .args .holds)) (now (c .before .before .before .before .before .before .before .before .before .before .before .before .before .before .args .signals))) (firstEvent (now (c .before .before .before .before .before .before .before .before .before .before .before .before .before .before .args .event))) (c .before .before .well-formed .ensures) (c .before .if1 .taken) (c .refusal-code .ensures)
+returns-2 c =
+    let told = c .before .before .before .before .before .before in
+    let args = told .before .before .before .before .before .before .args in
+    ill-formed (was-read (now (args .file)) _ (told .before .before .read .ensures) (told .enum-told .given .1)) (stateIn (now (args .cells)) (now (args .holds)))
+    (firstEvent (now (args .event))) (c .before .before .well-formed .ensures) (c .before .if1 .taken) (c .refusal-code .ensures)
 
 event-at-requires : tie.Need-event-at-requires
 event-at-requires c κs = search needs
 
-decide-requires : tie.Need-decide-requires
-decide-requires c κs = readable-image (was-read (now (c .before .before .before .before .before .before .before .before .before .before .before .before .before .before .before .before .before .before .before .args .file)) _ (c .before .before .before .before .before .before .before .before .before .before .before .before .before .before .before .read .ensures) (c .before .before .before .before .before .before .before .before .before .before .before .before .before .enum-told .given .1))
-
-act-requires : tie.Need-act-requires
-act-requires c κs = ready (was-read (now (c .before .before .before .before .before .before .before .before .before .before .before .before .before .before .before .before .before .before .before .before .before .before .before .before .before .args .file)) _ (c .before .before .before .before .before .before .before .before .before .before .before .before .before .before .before .before .before .before .before .before .before .read .ensures) (c .before .before .before .before .before .before .before .before .before .before .before .before .before .before .before .before .before .before .before .enum-told .given .1)) (stateOf (now (c .before .before .before .before .before .before .before .before .before .before .before .before .before .before .before .before .before .before .before .before .before .before .before .before .before .args .trains)) (now (c .before .before .before .before .before .before .before .before .before .before .before .before .before .before .before .before .before .before .before .before .before .before .before .before .before .args .lies)) (now (c .before .before .before .before .before .before .before .before .before .before .before .before .before .before .before .before .before .before .before .before .before .before .before .before .before .args .holds)) (now (c .before .before .before .before .before .before .before .before .before .before .before .before .before .before .before .before .before .before .before .before .before .before .before .before .before .args .signals))) _ (c .before .before .before .before .before .decide .ensures)
+play-requires : tie.Need-play-requires
+play-requires c κs =
+    let told = c .before .before .before .before .before .before .before .before .before in readable-image (was-read (now (told .before .before .before .before .before .before .args .file)) _ (told .before .before .read .ensures) (told .enum-told .given .1))
 
 answer-code-requires : tie.Need-answer-code-requires
 answer-code-requires c κs = search needs
 
 returns-3 : tie.Need-returns-3
-returns-3 c = stepped (was-read (now (c .before .before .before .before .before .before .before .before .before .before .before .before .before .before .before .before .before .before .before .before .before .before .before .before .before .before .before .args .file)) _ (c .before .before .before .before .before .before .before .before .before .before .before .before .before .before .before .before .before .before .before .before .before .before .before .read .ensures) (c .before .before .before .before .before .before .before .before .before .before .before .before .before .before .before .before .before .before .before .before .before .enum-told .given .1)) (stateOf (now (c .before .before .before .before .before .before .before .before .before .before .before .before .before .before .before .before .before .before .before .before .before .before .before .before .before .before .before .args .trains)) (now (c .before .before .before .before .before .before .before .before .before .before .before .before .before .before .before .before .before .before .before .before .before .before .before .before .before .before .before .args .lies)) (now (c .before .before .before .before .before .before .before .before .before .before .before .before .before .before .before .before .before .before .before .before .before .before .before .before .before .before .before .args .holds)) (now (c .before .before .before .before .before .before .before .before .before .before .before .before .before .before .before .before .before .before .before .before .before .before .before .before .before .before .before .args .signals))) (firstEvent (now (c .before .before .before .before .before .before .before .before .before .before .before .before .before .before .before .before .before .before .before .before .before .before .before .before .before .before .before .args .event))) (is-formed (was-read (now (c .before .before .before .before .before .before .before .before .before .before .before .before .before .before .before .before .before .before .before .before .before .before .before .before .before .before .before .args .file)) _ (c .before .before .before .before .before .before .before .before .before .before .before .before .before .before .before .before .before .before .before .before .before .before .before .read .ensures) (c .before .before .before .before .before .before .before .before .before .before .before .before .before .before .before .before .before .before .before .before .before .enum-told .given .1)) (stateOf (now (c .before .before .before .before .before .before .before .before .before .before .before .before .before .before .before .before .before .before .before .before .before .before .before .before .before .before .before .args .trains)) (now (c .before .before .before .before .before .before .before .before .before .before .before .before .before .before .before .before .before .before .before .before .before .before .before .before .before .before .before .args .lies)) (now (c .before .before .before .before .before .before .before .before .before .before .before .before .before .before .before .before .before .before .before .before .before .before .before .before .before .before .before .args .holds)) (now (c .before .before .before .before .before .before .before .before .before .before .before .before .before .before .before .before .before .before .before .before .before .before .before .before .before .before .before .args .signals))) (firstEvent (now (c .before .before .before .before .before .before .before .before .before .before .before .before .before .before .before .before .before .before .before .before .before .before .before .before .before .before .before .args .event))) (c .before .before .before .before .before .before .before .before .before .before .before .before .before .before .before .well-formed .ensures) (c .before .before .before .before .before .before .before .before .before .before .before .before .before .before .if1 .left)) (rw (c .before .before .before .before .before .before .before .before .event-at .ensures) at (c .before .before .before .before .before .before .before .decide .ensures)) (c .before .act .ensures) (c .answer-code .ensures)
+returns-3 c =
+    let tested = c .before .before .before .before .before .before .before in
+    let told = tested .before .before .before .before in
+    let args = told .before .before .before .before .before .before .args in
+    let w = was-read (now (args .file)) _ (told .before .before .read .ensures) (told .enum-told .given .1) in
+    let σ = stateIn (now (args .cells)) (now (args .holds)) in
+    let event = firstEvent (now (args .event)) in
+    let e = c .before .before .event-at .ensures in
+    stepped w σ event (is-formed w σ event (tested .well-formed .ensures) (c .before .before .before .before .before .before .if1 .left)) (rw e at (c .before .play .ensures .0)) (rw e at (c .before .play .ensures .1))
+    (c .answer-code .ensures)
 
 pub signalbox-step-spec : {M : Type 1} → statement M
 signalbox-step-spec =
@@ -59,7 +74,6 @@ signalbox-step-spec =
     refusal-code-requires
     returns-2
     event-at-requires
-    decide-requires
-    act-requires
+    play-requires
     answer-code-requires
     returns-3)

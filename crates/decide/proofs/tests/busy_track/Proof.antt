@@ -3,15 +3,16 @@ use mathlib.Core.Path.{_≡_, sym, _∙_}
 use Prim.Native.Nat.{_-_}
 use Rattle.laws.specs.Search.{lowest, lowestFrom, lowest-start, lowest-hit, lowest-miss, lowest-end}
 use Rattle.events.specs.Decide.{busy, busyTrack}
+use Rattle.state.specs.Cells.{trainsIn}
 use borrow.Author.Needs.{needs}
 use Rattle.decide.proofs.tests.busy_track.Statement.{statement}
 use Rattle.decide.proofs.tests.busy_track.Tie as tie
 
 abbrev Inv-loop : tie.InvT-loop
-Inv-loop count clear trains track₀ track = lowestFrom (busy clear trains) (count - track) track ≡ lowest count (busy clear trains)
+Inv-loop count clear cells track₀ track = lowestFrom (busy clear (trainsIn cells)) (count - track) track ≡ lowest count (busy clear (trainsIn cells))
 
 abbrev μ-loop : tie.MeasureT-loop
-μ-loop count clear trains track₀ track = count - track
+μ-loop count clear cells track₀ track = count - track
 
 loop-holds : tie.Need-loop-holds Inv-loop μ-loop
 loop-holds c = lowest-start _ _

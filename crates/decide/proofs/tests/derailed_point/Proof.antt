@@ -3,15 +3,16 @@ use mathlib.Core.Path.{_≡_, sym, _∙_}
 use Prim.Native.Nat.{_-_}
 use Rattle.laws.specs.Search.{lowest, lowestFrom, lowest-start, lowest-hit, lowest-miss, lowest-end}
 use Rattle.events.specs.Decide.{derails, derailedPoint}
+use Rattle.state.specs.Cells.{trainsIn, liesIn}
 use borrow.Author.Needs.{needs}
 use Rattle.decide.proofs.tests.derailed_point.Statement.{statement}
 use Rattle.decide.proofs.tests.derailed_point.Tie as tie
 
 abbrev Inv-loop : tie.InvT-loop
-Inv-loop count normal reverse trains lies point₀ point = lowestFrom (derails normal reverse trains lies) (count - point) point ≡ lowest count (derails normal reverse trains lies)
+Inv-loop count normal reverse cells point₀ point = lowestFrom (derails normal reverse (trainsIn cells) (liesIn cells)) (count - point) point ≡ lowest count (derails normal reverse (trainsIn cells) (liesIn cells))
 
 abbrev μ-loop : tie.MeasureT-loop
-μ-loop count normal reverse trains lies point₀ point = count - point
+μ-loop count normal reverse cells point₀ point = count - point
 
 loop-holds : tie.Need-loop-holds Inv-loop μ-loop
 loop-holds c = lowest-start _ _

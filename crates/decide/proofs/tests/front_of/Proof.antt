@@ -4,25 +4,26 @@ use Prim.Native.Nat.{_-_}
 use Rattle.laws.specs.Search.{lowest, lowestFrom, lowest-start, lowest-hit, lowest-miss, lowest-end}
 use borrow.Author.Tests.{eq-eqb, ne-eqb}
 use Rattle.events.specs.Decide.{stands}
+use Rattle.state.specs.Cells.{trainsIn}
 use borrow.Author.Needs.{needs}
 use Rattle.decide.proofs.tests.front_of.Statement.{statement}
 use Rattle.decide.proofs.tests.front_of.Tie as tie
 
 abbrev Inv-loop : tie.InvT-loop
-Inv-loop count trains train front₀ front = lowestFrom (stands trains train) (count - front) front ≡ lowest count (stands trains train)
+Inv-loop count cells train front₀ front = lowestFrom (stands (trainsIn cells) train) (count - front) front ≡ lowest count (stands (trainsIn cells) train)
 
 abbrev μ-loop : tie.MeasureT-loop
-μ-loop count trains train front₀ front = count - front
+μ-loop count cells train front₀ front = count - front
 
 loop-holds : tie.Need-loop-holds Inv-loop μ-loop
 loop-holds c = lowest-start _ _
 
-element-copy-out-if1 : tie.Need-element-copy-out-if1 Inv-loop μ-loop
-element-copy-out-if1 c = search needs
+train-at-requires : tie.Need-train-at-requires Inv-loop μ-loop
+train-at-requires c κs = search needs
 
 returns : tie.Need-returns Inv-loop μ-loop
 unfolding stands
-returns c = sym (lowest-hit _ _ _ (c .before .before .loop-test .taken) (eq-eqb _ _ (c .if1 .taken))) ∙ c .before .before .before .loop .inv
+returns c = sym (lowest-hit _ _ _ (c .before .before .loop-test .taken) (eq-eqb _ _ (rw (c .before .train-at .ensures) at (c .if1 .taken)))) ∙ c .before .before .before .loop .inv
 
 add-front : tie.Need-add-front Inv-loop μ-loop
 add-front c = search needs
@@ -32,7 +33,7 @@ loop-less c = search needs
 
 loop-again : tie.Need-loop-again Inv-loop μ-loop
 unfolding stands
-loop-again c = sym (lowest-miss _ _ _ (c .before .before .loop-test .taken) (ne-eqb _ _ (c .if1 .left))) ∙ c .before .before .before .loop .inv
+loop-again c = sym (lowest-miss _ _ _ (c .before .before .loop-test .taken) (ne-eqb _ _ (rw (c .before .train-at .ensures) at (c .if1 .left)))) ∙ c .before .before .before .loop .inv
 
 returns-2 : tie.Need-returns-2 Inv-loop μ-loop
 returns-2 c = sym (lowest-end _ _ _ (c .loop-test .left)) ∙ c .before .loop .inv
@@ -44,7 +45,7 @@ front-of-spec =
     Inv-loop
     μ-loop
     loop-holds
-    element-copy-out-if1
+    train-at-requires
     returns
     add-front
     loop-less

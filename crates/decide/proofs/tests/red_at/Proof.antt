@@ -2,7 +2,7 @@
 use mathlib.Core.Path.{sym, _∙_}
 use native.Mathlib.Omega.{arith}
 use denote.Ref.{now}
-use Rattle.state.proofs.Cells.{signals-most}
+use Rattle.state.proofs.Tests.{signals-most}
 use Rattle.decide.proofs.Cells.{red-none, red-shown, red-green}
 use Rattle.decide.proofs.Within.{signal-within}
 use borrow.Author.Needs.{needs}
@@ -21,14 +21,14 @@ enum-told c = search needs
 returns : tie.Need-returns
 returns c = red-none _ _ _ (c .before .before .signal-at .ensures) (c .enum-told .given .1)
 
-element-copy-out-if1 : tie.Need-element-copy-out-if1
-element-copy-out-if1 c = omega (arith, signal-within _ _ (sym (c .before .before .before .signal-at .ensures) ∙ c .before .found .given .1), signals-most (now (c .before .before .before .before .args .image)))
+shown-at-requires : tie.Need-shown-at-requires
+shown-at-requires c κs = omega (arith, signal-within _ _ (sym (c .before .before .before .signal-at .ensures) ∙ c .before .found .given .1), signals-most (now (c .before .before .before .before .args .image)))
 
 returns-2 : tie.Need-returns-2
-returns-2 c = red-shown _ _ _ (c .before .before .before .before .before .signal-at .ensures) (c .before .before .before .found .given .1) (c .if1 .taken)
+returns-2 c = red-shown _ _ _ (c .before .before .before .before .before .signal-at .ensures) (c .before .before .before .found .given .1) (rw (c .before .shown-at .ensures) at (c .if1 .taken))
 
 returns-3 : tie.Need-returns-3
-returns-3 c = red-green _ _ _ (c .before .before .before .before .before .signal-at .ensures) (c .before .before .before .found .given .1) (c .if1 .left)
+returns-3 c = red-green _ _ _ (c .before .before .before .before .before .signal-at .ensures) (c .before .before .before .found .given .1) (rw (c .before .shown-at .ensures) at (c .if1 .left))
 
 pub red-at-spec : {M : Type 1} → statement M
 red-at-spec =
@@ -38,6 +38,6 @@ red-at-spec =
     enum-known-found
     enum-told
     returns
-    element-copy-out-if1
+    shown-at-requires
     returns-2
     returns-3)

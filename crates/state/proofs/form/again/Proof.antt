@@ -2,7 +2,7 @@
 use native.Mathlib.Omega.{arith}
 use mathlib.Core.Path.{sym, ap, _∙_}
 use Rattle.laws.specs.Lists.{has}
-use Rattle.state.proofs.Cells.{again-none, again-later}
+use Rattle.state.proofs.Tests.{again-none, again-later}
 use borrow.Author.Needs.{needs}
 use Rattle.state.proofs.form.again.Statement.{statement}
 use Rattle.state.proofs.form.again.Tie as tie

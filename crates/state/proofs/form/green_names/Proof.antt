@@ -4,7 +4,7 @@ use mathlib.Core.Path.{sym, ap, _∙_}
 use denote.Ref.{now}
 use lib.Dec.{eqb}
 use Rattle.plan.specs.Image.{planOf}
-use Rattle.state.proofs.Cells.{names-red, names-none, names-start}
+use Rattle.state.proofs.Tests.{names-red, names-none, names-start}
 use borrow.Author.Needs.{needs}
 use Rattle.state.proofs.form.green_names.Statement.{statement}
 use Rattle.state.proofs.form.green_names.Tie as tie

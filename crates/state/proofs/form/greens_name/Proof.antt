@@ -7,19 +7,20 @@ use denote.Ref.{now}
 use Rattle.laws.specs.Tests.{Is, not-t, not-f}
 use Rattle.laws.specs.Search.{allBelow}
 use Rattle.plan.specs.Image.{planOf}
-use Rattle.state.proofs.Cells.{signals-most}
+use Rattle.state.proofs.Tests.{signals-most}
 use Rattle.state.specs.State.{namedAt, greensName}
-use Rattle.state.proofs.Cells.{named-shown}
+use Rattle.state.proofs.Tests.{named-shown}
 use Rattle.laws.specs.Walks.{below-start, below-passed, below-failed, below-done}
+use Rattle.state.specs.Cells.{signalsIn}
 use borrow.Author.Needs.{needs}
 use Rattle.state.proofs.form.greens_name.Statement.{statement}
 use Rattle.state.proofs.form.greens_name.Tie as tie
 
 abbrev Inv-loop : tie.InvT-loop
-Inv-loop image signals count s₀ s = (s ≤ count) × Is (allBelow s (namedAt (planOf image) signals))
+Inv-loop image cells count s₀ s = (s ≤ count) × Is (allBelow s (namedAt (planOf image) (signalsIn cells)))
 
 abbrev μ-loop : tie.MeasureT-loop
-μ-loop image signals count s₀ s = count - s
+μ-loop image cells count s₀ s = count - s
 
 signals-requires : tie.Need-signals-requires Inv-loop μ-loop
 signals-requires c κs = search needs
@@ -27,8 +28,8 @@ signals-requires c κs = search needs
 loop-holds : tie.Need-loop-holds Inv-loop μ-loop
 loop-holds c = (search needs, below-start _)
 
-element-copy-out-wide : tie.Need-element-copy-out-wide Inv-loop μ-loop
-element-copy-out-wide c = omega (arith, c .before .before .signals .ensures, signals-most (now (c .before .before .before .args .image)))
+shown-at-requires : tie.Need-shown-at-requires Inv-loop μ-loop
+shown-at-requires c κs = omega (arith, c .before .before .signals .ensures, signals-most (now (c .before .before .before .args .image)))
 
 wide-requires : tie.Need-wide-requires Inv-loop μ-loop
 wide-requires c κs = search needs
@@ -38,7 +39,7 @@ green-names-requires c κs = search needs
 
 returns : tie.Need-returns Inv-loop μ-loop
 unfolding greensName
-returns c = sym (below-failed _ _ _ (rw (c .before .before .before .before .before .before .signals .ensures) at (c .before .before .before .before .loop-test .taken)) (named-shown _ _ _ _ (c .before .before .wide .ensures) ∙ sym (c .before .green-names .ensures) ∙ not-t _ (c .if1 .taken)))
+returns c = sym (below-failed _ _ _ (rw (c .before .before .before .before .before .before .signals .ensures) at (c .before .before .before .before .loop-test .taken)) (named-shown _ _ _ _ (c .before .before .wide .ensures ∙ c .before .before .before .shown-at .ensures) ∙ sym (c .before .green-names .ensures) ∙ not-t _ (c .if1 .taken)))
 
 add-s : tie.Need-add-s Inv-loop μ-loop
 add-s c = search needs
@@ -47,7 +48,7 @@ loop-less : tie.Need-loop-less Inv-loop μ-loop
 loop-less c = search needs
 
 loop-again : tie.Need-loop-again Inv-loop μ-loop
-loop-again c = (search needs, below-passed _ _ (c .before .before .before .before .before .loop .inv .1) (named-shown _ _ _ _ (c .before .before .wide .ensures) ∙ sym (c .before .green-names .ensures) ∙ not-f _ (c .if1 .left)))
+loop-again c = (search needs, below-passed _ _ (c .before .before .before .before .before .loop .inv .1) (named-shown _ _ _ _ (c .before .before .wide .ensures ∙ c .before .before .before .shown-at .ensures) ∙ sym (c .before .green-names .ensures) ∙ not-f _ (c .if1 .left)))
 
 returns-2 : tie.Need-returns-2 Inv-loop μ-loop
 unfolding greensName
@@ -61,7 +62,7 @@ greens-name-spec =
     μ-loop
     signals-requires
     loop-holds
-    element-copy-out-wide
+    shown-at-requires
     wide-requires
     green-names-requires
     returns

@@ -10,15 +10,16 @@ use Rattle.plan.specs.Image.{planOf}
 use Rattle.plan.proofs.View.{tracks-most}
 use Rattle.state.specs.State.{pointOr, pointsOnly}
 use Rattle.laws.specs.Walks.{below-start, below-passed, below-failed, below-done}
+use Rattle.state.specs.Cells.{liesIn}
 use borrow.Author.Needs.{needs}
 use Rattle.state.proofs.form.points_only.Statement.{statement}
 use Rattle.state.proofs.form.points_only.Tie as tie
 
 abbrev Inv-loop : tie.InvT-loop
-Inv-loop image lies holds count u₀ u = (u ≤ count) × Is (allBelow u (pointOr (planOf image) lies holds))
+Inv-loop image cells holds count u₀ u = (u ≤ count) × Is (allBelow u (pointOr (planOf image) (liesIn cells) holds))
 
 abbrev μ-loop : tie.MeasureT-loop
-μ-loop image lies holds count u₀ u = count - u
+μ-loop image cells holds count u₀ u = count - u
 
 tracks-requires : tie.Need-tracks-requires Inv-loop μ-loop
 tracks-requires c κs = search needs

@@ -1,0 +1,38 @@
+-- The two lent arrays hold a state and nothing more: all zeros are the fresh state, and arrays that hold the same state are the same. So a contract
+-- that says which state they hold says what each of their cells holds. Assumes nothing.
+use mathlib.Core.Path.{_≡_, refl, sym, ap, _∙_}
+use mathlib.Core.List.{List, _++_}
+use Prim.Native.Nat.{ℕ, _+_, _≤_}
+use native.Mathlib.Omega.{arith}
+use lib.ListN.{length, take, drop, replicate, take-append-drop, length-drop}
+use lib.Seq.{take-all, drop-drop}
+use Rattle.plan.specs.Limits.{mostTracks, mostSignals}
+use Rattle.state.specs.declared.State.{State}
+use Rattle.state.specs.State.{fresh}
+use Rattle.state.specs.Cells.{trainsFrom, liesFrom, signalsFrom, cellsSize, part, trainsIn, liesIn, signalsIn, stateIn}
+
+pub zeros-fresh : stateIn (replicate cellsSize 0) (replicate mostTracks 0) ≡ fresh
+unfolding trainsIn liesIn signalsIn part fresh
+zeros-fresh = refl
+
+-- A part and what comes after it.
+part-joins : (from size : ℕ) (cells : List ℕ) → part from size cells ++ drop (from + size) cells ≡ drop from cells
+unfolding part
+part-joins from size cells = rw (← drop-drop size from cells) (take-append-drop size (drop from cells))
+
+part-last : (from size : ℕ) (cells : List ℕ) → length cells ≤ from + size → part from size cells ≡ drop from cells
+unfolding part
+part-last from size cells h = take-all size (drop from cells) (rw length-drop (omega arith))
+
+-- The parts one after the other are the cells: nothing stands between two of them or after the last.
+parts-cover : (cells : List ℕ) → length cells ≡ cellsSize → trainsIn cells ++ (liesIn cells ++ signalsIn cells) ≡ cells
+unfolding trainsIn liesIn signalsIn
+parts-cover cells n =
+    ap (λ (l : List ℕ). trainsIn cells ++ l) (ap (λ (l : List ℕ). liesIn cells ++ l) (part-last signalsFrom mostSignals cells (omega arith)) ∙ part-joins liesFrom mostTracks cells)
+    ∙ part-joins trainsFrom mostTracks cells
+
+pub same-state-same-cells : {cells cells′ holds holds′ : List ℕ} → length cells ≡ cellsSize → length cells′ ≡ cellsSize
+    → stateIn cells holds ≡ stateIn cells′ holds′ → (cells ≡ cells′) × (holds ≡ holds′)
+same-state-same-cells {cells} {cells′} n n′ e =
+    let f : State → List ℕ = λ σ. σ .trains ++ (σ .lies ++ σ .signals) in
+    (sym (parts-cover cells n) ∙ ap f e ∙ parts-cover cells′ n′, ap (λ (σ : State). σ .holds) e)
