@@ -12,14 +12,15 @@ use borrow.Rule.Slice.PartMut.{midOf, putMid}
 use types.Run.{OneOf, miss}
 use denote.Enum.Declared.{tagOf}
 use Rattle.laws.specs.Lists.{anyOf, has, joined}
-use Rattle.laws.specs.Sets.{including, excluding, including-including}
+use Rattle.laws.specs.Sets.{excluding}
 use Rattle.laws.specs.Tables.{tab, length-tab, getD-tab, tab-cong, tab-of}
 use Rattle.plan.specs.declared.Release.{Release}
 use Rattle.plan.specs.Limits.{mostTracks, mostSignals}
 use Rattle.plan.specs.Records.{Plan, homeOf, routeOf}
 use Rattle.plan.specs.File.{releaseFile, Readable}
 use Rattle.state.specs.declared.State.{State}
-use Rattle.state.specs.Holds.{room, adding}
+use Rattle.state.specs.Holds.{adding}
+use Rattle.state.proofs.Holds.{adding-adding}
 use Rattle.state.specs.State.{stateOf, noTrain, normalLie, reverseLie, red}
 use Rattle.state.specs.Cells.{trainsFrom, liesFrom, signalsFrom, cellsSize, part, trainsIn, liesIn, signalsIn, stateIn}
 use Rattle.state.proofs.Parts.{back}
@@ -36,14 +37,6 @@ use Rattle.act.specs.Cells.{turned, held, released, freed, Ready}
 use Rattle.act.proofs.Walks.{written, upTo, done-length, done-next, done-set}
 
 -- The walks, turn by turn.
-
-pub adding-adding : (r set : ℕ) → adding (adding set r) r ≡ adding set r
-unfolding adding
-adding-adding r set = go (ltb r room)
-  where
-    go : (b : Bool) → cond b (including (cond b (including set r) set) r) (cond b (including set r) set) ≡ cond b (including set r) set
-    go true = including-including set r
-    go false = refl
 
 pub drop-step : (r : ℕ) (m h : List ℕ) (q a : ℕ) → h ≡ tab (length m) (upTo q (dropped r m) m) → q < length h → a ≡ excluding (getD h q 0) r
     → set h q a ≡ tab (length m) (upTo (q + 1) (dropped r m) m)
@@ -193,7 +186,7 @@ module _ (p : Plan) (a : Deed) (m : List ℕ) (long : length m ≡ mostTracks) w
         (tab-cong mostTracks _ _ (λ q h. rw (getD-tab mostTracks (held normal r m) q 0 h) (go (getD m q 0) (has q normal) (has q reverse))))
       where
         go : (x : ℕ) (b c : Bool) → cond c (adding (cond b (adding x r) x) r) (cond b (adding x r) x) ≡ cond (b || c) (adding x r) x
-        go x true true = adding-adding r x
+        go x true true = adding-adding x r
         go x true false = refl
         go x false c = refl
 

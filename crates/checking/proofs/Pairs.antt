@@ -1,15 +1,15 @@
 -- Rule 3 as code walks it: for a track led to, all tracks that may lead there, remembering whether one did.
-use mathlib.Core.Path.{_≡_, refl, sym, ap, _∙_}
+use mathlib.Core.Path.{_≡_, refl, sym, _∙_}
 use mathlib.Core.Bool.{Bool, true, false, not, cond, _&&_}
-use Prim.Native.Nat.{ℕ, zero, suc, _+_, _<_, _≤_}
+use Prim.Native.Nat.{ℕ, _+_, _<_, _≤_}
 use native.Mathlib.Numerals.{add-one}
 use lib.ListN.{length}
-use Rattle.laws.specs.Tests.{Is, split}
+use Rattle.laws.specs.Tests.{Is}
 use Rattle.laws.specs.Search.{allBelow}
 use Rattle.plan.specs.Records.{Plan}
 use Rattle.plan.specs.Layout.{legged, leads}
 use Rattle.rules.specs.Rules.{isLeg, noneLeads, forbidden, ledOnce}
-use Rattle.laws.specs.Walks.{below-start, below-passed, below-failed, below-done}
+use Rattle.laws.specs.Walks.{below-passed, below-failed, below-done}
 
 -- of the tracks below u none is forbidden to lead to v, and `first` says whether none leads there
 pub record Led (p : Plan) (v u : ℕ) (first : Bool) : Type 0 where

@@ -1,17 +1,17 @@
 -- What the notions that the rules share mean: each test is true exactly when what it names is so.
-use mathlib.Core.Path.{_≡_, refl, sym, ap, _∙_}
-use mathlib.Core.Bool.{Bool, true, false, not, cond, _&&_, _||_}
+use mathlib.Core.Path.{_≡_, refl, sym, ap}
+use mathlib.Core.Bool.{Bool, true, false, not, _&&_, _||_}
 use mathlib.Core.Logic.{_≢_, _⊎_, inl, inr}
 use mathlib.Core.List.{List, [], _∷_}
-use Prim.Native.Nat.{ℕ, zero, suc, _+_, _<_, _≤_}
+use Prim.Native.Nat.{ℕ, zero, suc, _<_}
 use native.Mathlib.Omega.{arith}
 use native.Mathlib.Nat.{not-suc-le-zero}
 use lib.ListN.{length, getD, List·getD-eq-default}
 use lib.Dec.{eqb}
-use borrow.Author.Tests.{eqb-true, eqb-false, eq-eqb, ne-eqb}
-use Rattle.laws.specs.Tests.{Is, split, never, clash, same?, below?, and-l, and-r, and-i, or-e, or-l, or-r, not-t, not-f, not-i}
+use borrow.Author.Tests.{eqb-true, eqb-false, eq-eqb}
+use Rattle.laws.specs.Tests.{Is, split, clash, below?, and-l, and-r, and-i, or-e, or-l, or-r, not-t, not-i}
 use Rattle.laws.specs.Lists.{has, In, has-in, in-has, anyOf-at, anyOf-any}
-use Rattle.laws.specs.Search.{allBelow, allBelow-at, allBelow-all}
+use Rattle.laws.specs.Search.{allBelow-at, allBelow-all}
 use Rattle.plan.specs.Records.{Plan, noTrack, plain, facing, trailing, exit, trackOf, homeOf, routeOf}
 use Rattle.plan.specs.Layout.{isPlain, isExit, forks, legged, out, leg, leads, isHome}
 use Rattle.rules.specs.Rules.{noRelease, different, later, pointsOf, releaseOf, wants, wantsOut, listedOut, wantsIn, listedIn, listed, released, noneLeads, isLeg}

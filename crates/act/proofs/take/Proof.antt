@@ -7,7 +7,7 @@ use Rattle.laws.specs.Lists.{all-at}
 use Rattle.state.specs.Holds.{adding}
 use Rattle.act.specs.Cells.{held}
 use Rattle.act.proofs.Walks.{writes, writes-step, writes-end, writes-tab}
-use Rattle.act.proofs.Acts.{adding-adding}
+use Rattle.state.proofs.Holds.{adding-adding}
 use borrow.Author.Needs.{needs}
 use Rattle.act.proofs.take.Statement.{statement}
 use Rattle.act.proofs.take.Tie as tie
@@ -59,7 +59,7 @@ same-length c = c .before .loop .inv .1
 
 returns : tie.Need-returns Inv-loop μ-loop
 unfolding held
-returns c = sym (writes-end _ _ _ _ (c .loop-test .left)) ∙ sym (c .before .loop .inv .2) ∙ writes-tab _ (λ x. adding-adding _ x) _ _
+returns c = sym (writes-end _ _ _ _ (c .loop-test .left)) ∙ sym (c .before .loop .inv .2) ∙ writes-tab _ (λ x. adding-adding x _) _ _
 
 pub take-spec : {M : Type 1} → statement M
 take-spec =
