@@ -1,4 +1,4 @@
--- What a function that writes bytes into lent memory hands back and leaves there.
+-- What a function that writes bytes, or codes, into lent memory hands back and leaves there.
 use mathlib.Core.Path.{_≡_}
 use mathlib.Core.List.{List}
 use Prim.Native.Nat.{ℕ, _+_, _≤_}
