@@ -1,6 +1,15 @@
-# What the gate's scripts read: every function of the crates with its clauses and calls, the declarations of a file, and the tables of a document.
+# What the gate's scripts read: every function of the crates with its clauses and calls, the declarations of a file, the sizes that the sources
+# hold, and the tables of a document.
 import re
+import sys
 from pathlib import Path
+
+
+def report(script, faults):
+    """A line for each fault, and the status that goes with it."""
+    for fault in faults:
+        print(f'{script}: {fault}', file=sys.stderr)
+    sys.exit(1 if faults else 0)
 
 
 def blanked(text):
@@ -160,6 +169,16 @@ def unread(text):
             yield what
 
 
+def rooms_below(root):
+    """The crates in the order of crates.txt, each with those that it names."""
+    lines = (line.partition(':') for line in (Path(root) / 'crates.txt').read_text().split('\n') if line.strip() and not line.startswith('#'))
+    return {room.strip(): below.split() for room, _, below in lines}
+
+
+def rooms(root):
+    return list(rooms_below(root))
+
+
 def functions_of(root):
     """All functions under crates/*/src by their path, each with the functions that it calls."""
     root = Path(root)
@@ -197,13 +216,84 @@ def named(call, path, uses, found):
     return []
 
 
+# The files of the crates whose constants are sizes: the limits and what is computed from them, the cells of a state; the room for a line, and the
+# program's buffers.
+LIMITS = ('plan/src/limits.rt', 'state/src/cells.rt')
+SIZES = (*LIMITS, 'lines/src/lib.rt', 'bench/src/main.rt')
+
+
+def constants(root, files):
+    """The constants of type usize in files of the crates, each by its name as the expression that stands there and its value."""
+    expressions, values = {}, {}
+    for file in files:
+        plain = blanked((Path(root) / 'crates' / file).read_text())
+        for name, expression in re.findall(r'\bconst\s+(\w+)\s*:\s*usize\s*=\s*([^;]+);', plain):
+            if name in expressions:
+                raise ValueError(f'{file}: the constant {name} stands in another file too')
+            expressions[name] = words(expression)
+
+    def value(name):
+        if name not in expressions:
+            raise ValueError(f'{name} is no constant of {", ".join(files)}')
+        if name not in values:
+            sum_of = ''
+            for m in re.finditer(r'(\d[\d_]*)(?:usize)?\b|(?:\w+::)*([A-Z]\w*)|[-+*/()]|\s|(.)', expressions[name]):
+                if m[3]:
+                    raise ValueError(f'{name} = {expressions[name]} is not read here')
+                sum_of += m[1] or (str(value(m[2])) if m[2] else m[0].replace('/', '//'))
+            values[name] = eval(sum_of)
+        return values[name]
+
+    return {name: (expression, value(name)) for name, expression in expressions.items()}
+
+
+def defined(root, file):
+    """The numbers that a file of definitions holds by name, each an `abbrev`, in their order."""
+    values = {}
+    for name, expression in re.findall(r'^abbrev pub (\w+) : ℕ\n\1 = ([\w +*()]+)$', (Path(root) / 'crates' / file).read_text(), re.M):
+        values[name] = eval(expression, {'__builtins__': {}}, values | HELD.get(file, lambda root: {})(root))
+    return values
+
+
+# what a file of definitions takes from another
+HELD = {'state/specs/Cells.antt': lambda root: defined(root, 'plan/specs/Limits.antt')}
+
+
+def sizes(root):
+    """Every size that the sources hold, by the name of its constant."""
+    return {name: value for name, (_, value) in constants(root, SIZES).items()}
+
+
+def counts(root):
+    """The limits themselves, by value with their names: the constants that are plain numbers. Numbers up to 8 are written innocently."""
+    found = {}
+    for name, (expression, value) in constants(root, LIMITS).items():
+        if expression.isdigit() and value > 8:
+            found[value] = f'{found[value]}, {name}' if value in found else name
+    return found
+
+
+def computed(root):
+    """What is computed from the limits, by value with its name; and one byte more than the longest file. Left out is what is written innocently:
+    numbers up to 32, the limits themselves, and how many values one byte has, or two."""
+    found = {}
+    for name, (expression, value) in constants(root, LIMITS).items():
+        if not expression.isdigit():
+            found.setdefault(value, name)
+            if name == 'IMAGE':
+                found.setdefault(value + 1, 'IMAGE + 1')
+    innocent = {*range(33), *counts(root), 256, 65536}
+    return {value: name for value, name in found.items() if value not in innocent}
+
+
 def declares(text, name):
     """Whether the text of definitions declares the name, or the field or case after a dot in the block of the name before it."""
     whole, _, inner = name.partition('.')
     lead = r'(?:(?:abbrev|unfoldable|pub)\s+)*'
     lines = text.split('\n')
+    head = re.compile(rf'\s*{lead}(?:(?:record|data)\s+{re.escape(whole)}[\s:]|{re.escape(whole)}(?:\s+\{{[^}}]*\}})*\s*:(?:\s|$))')
     for i, line in enumerate(lines):
-        if not re.match(rf'\s*{lead}(?:(?:record|data)\s+{re.escape(whole)}[\s:]|{re.escape(whole)}(?:\s+\{{[^}}]*\}})*\s*:(?:\s|$))', line):
+        if whole not in line or not head.match(line):
             continue
         if not inner:
             return True

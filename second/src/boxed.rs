@@ -5,6 +5,7 @@
 //! an accident, 100 to 104 what changes the state, 200 and above a verdict), and the bytes above it are the values.
 
 use crate::model::answer::{Accident, Answer, Refusal, Verdict};
+use crate::model::plan::{MOST_SIGNALS, MOST_TRACKS};
 use crate::model::reading::Form;
 use crate::model::rules::Broken;
 use crate::model::state::Arrays;
@@ -13,12 +14,15 @@ use crate::subject::{Lent, Prepared, Subject, LINE, PAST};
 /// A state as the box is lent it: trains, lies and signals one after the other, and the holds.
 #[repr(C)]
 struct State {
-    cells: [u8; 160],
-    holds: [u64; 64],
+    cells: [u8; CELLS],
+    holds: [u64; HOLDS],
 }
 
-const LIES: usize = 64;
-const SIGNALS: usize = 128;
+/// Where the lies and the signals start among the cells, and how many cells there are; trains start at 0.
+pub const LIES: usize = MOST_TRACKS;
+pub const SIGNALS: usize = LIES + MOST_TRACKS;
+pub const CELLS: usize = SIGNALS + MOST_SIGNALS;
+pub const HOLDS: usize = MOST_TRACKS;
 
 // A slice passes as a pointer and a length, an array as a pointer.
 #[link(name = "signalbox", kind = "static")]
@@ -28,16 +32,16 @@ extern "C" {
     fn signalbox_step(
         file: *const u8,
         length: usize,
-        cells: &mut [u8; 160],
-        holds: &mut [u64; 64],
+        cells: &mut [u8; CELLS],
+        holds: &mut [u64; HOLDS],
         event: *const u8,
         event_length: usize,
     ) -> u64;
     fn signalbox_run(
         file: *const u8,
         length: usize,
-        cells: &mut [u8; 160],
-        holds: &mut [u64; 64],
+        cells: &mut [u8; CELLS],
+        holds: &mut [u64; HOLDS],
         events: *const u8,
         events_length: usize,
         answers: *mut u64,
@@ -47,8 +51,8 @@ extern "C" {
     fn signalbox_print(
         file: *const u8,
         length: usize,
-        cells: &mut [u8; 160],
-        holds: &mut [u64; 64],
+        cells: &mut [u8; CELLS],
+        holds: &mut [u64; HOLDS],
         events: *const u8,
         events_length: usize,
         out: *mut u8,
@@ -58,7 +62,7 @@ extern "C" {
 
 impl State {
     fn of(arrays: &Arrays) -> Self {
-        let mut cells = [0; 160];
+        let mut cells = [0; CELLS];
         cells[..LIES].copy_from_slice(&arrays.trains);
         cells[LIES..SIGNALS].copy_from_slice(&arrays.lies);
         cells[SIGNALS..].copy_from_slice(&arrays.signals);

@@ -8,6 +8,7 @@ pub mod boxed;
 pub mod compare;
 pub mod document;
 pub mod generate;
+pub mod limits;
 pub mod model;
 pub mod mutants;
 pub mod random;

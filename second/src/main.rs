@@ -3,7 +3,7 @@
 use second::book::MODEL;
 use second::compare::driver::{self, Search};
 use second::subject::Subject;
-use second::{bench, mutants, sessions};
+use second::{bench, limits, mutants, sessions};
 use std::io::{self, Read, Write};
 use std::path::Path;
 use std::process::ExitCode;
@@ -12,6 +12,7 @@ const USAGE: &str = "usage: second [--long] [--seed N] [--trace]  compare the bo
        second --case SEED                  compare one case again
        second --mutants [--seed N]         catch every mutant
        second --bench                      print times
+       second --limits                     print the sizes that it goes by
        second sessions DIR                 write the session folders
        second run                          read plan.bin and events like the program itself";
 
@@ -52,6 +53,12 @@ fn carry_out(words: &[&str]) -> Option<bool> {
         ["--mutants", ref options @ ..] => Some(mutants::catch_all(search(options)?.seed)),
         ["--bench"] => {
             bench::bench(other_subject());
+            Some(true)
+        }
+        ["--limits"] => {
+            for (name, size) in limits::all() {
+                println!("{name} {size}");
+            }
             Some(true)
         }
         ["sessions", directory] => Some(write_sessions(Path::new(directory))),

@@ -2,6 +2,7 @@
 
 use crate::document::{self, Session, BENCH_PLAN};
 use crate::generate::largest::largest;
+use crate::model::plan::LARGEST_FILE;
 use crate::random::Random;
 use crate::rows;
 use crate::writing::write;
@@ -54,16 +55,16 @@ fn odd_plans() -> Vec<Session> {
             "form 1 at 0\n",
         ),
         odd_plan(
-            "plan-of-10852-bytes",
+            "largest-plan",
             "The largest plan there is, with every count at its limit. It is accepted.",
             Some(largest_plan),
             "accepted\nrefused 11\nrefused 11\n",
         ),
         odd_plan(
-            "plan-of-10853-bytes",
+            "largest-plan-one-byte-more",
             "The largest plan with one byte after its end.",
             Some(one_byte_more),
-            "form 5 at 10852\n",
+            &format!("form 5 at {LARGEST_FILE}\n"),
         ),
     ]
 }

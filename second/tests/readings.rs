@@ -3,7 +3,7 @@
 use second::book::MODEL;
 use second::document::BENCH_PLAN;
 use second::model::answer::{Accident, Answer, Refusal};
-use second::model::plan::{Lie, Plan, Track};
+use second::model::plan::{Lie, Plan, Track, CLEAR, MOST_TRACKS};
 use second::model::reading::{read, Form};
 use second::model::rules::{check, rule_3, rule_5, rule_9, Broken};
 use second::model::state::{Arrays, State};
@@ -55,10 +55,10 @@ fn a_release_pairs_four_stands_at_its_point() {
 #[test]
 fn a_count_may_be_larger_than_the_number_of_tracks() {
     let mut file = BENCH_PLAN.to_vec();
-    file[25] = 64;
+    file[25] = *CLEAR.end() as u8;
     // Bytes 26 and 27 rise, byte 28 is the 1 that was the next count.
     assert_eq!(form(&file), at(4, 28));
-    file[25] = 65;
+    file[25] += 1;
     assert_eq!(form(&file), at(2, 25));
 }
 
@@ -251,7 +251,7 @@ fn an_entry_is_asked_17_then_13_then_40_and_drops_no_hold() {
 fn an_unreadable_plan_answers_every_event_with_its_form() {
     let file = &BENCH_PLAN[..53];
     let mut arrays = Arrays::fresh();
-    arrays.trains = [9; 64];
+    arrays.trains = [9; MOST_TRACKS];
     let before = arrays.clone();
     let answer = MODEL.prepare(file).step(&mut arrays, &[9, 9, 9]);
     assert_eq!(Some(answer), at(1, 53).map(Answer::Unreadable));

@@ -17,22 +17,24 @@ use Rattle.laws.specs.Tables.{tab, length-tab, getD-tab, tab-cong, tab-of}
 use Rattle.plan.specs.declared.Release.{Release}
 use Rattle.plan.specs.Limits.{mostTracks, mostSignals}
 use Rattle.plan.specs.Records.{Plan, homeOf, routeOf}
+use Rattle.plan.specs.Layout.{standsAt}
+use Rattle.plan.specs.Routes.{releases, listed}
 use Rattle.plan.specs.File.{releaseFile, Readable}
 use Rattle.state.specs.declared.State.{State}
 use Rattle.state.specs.Holds.{adding}
-use Rattle.state.proofs.Holds.{adding-adding}
 use Rattle.state.specs.State.{stateOf, noTrain, normalLie, reverseLie, red}
 use Rattle.state.specs.Cells.{trainsFrom, liesFrom, signalsFrom, cellsSize, part, trainsIn, liesIn, signalsIn, stateIn}
+use Rattle.state.proofs.Holds.{adding-adding}
 use Rattle.state.proofs.Parts.{back}
 use Rattle.events.specs.declared.Deed.{Deed}
 use Rattle.events.specs.declared.Deed.the-variants.{Granted, Cancelled, Entered, Moved, Left}
 use Rattle.events.specs.declared.Answer.{Answer}
 use Rattle.events.specs.declared.Answer.the-variants.{Refused, Accident, Done}
+use Rattle.events.specs.Answers.{deedArrives, deedLeaves}
+use Rattle.events.specs.Decide.{lieAfter}
+use Rattle.events.specs.After.{stood, gone, newTrains, newLies, taken, dropped, droppedAll, arrived, routeHolds, givenBack, newHolds, shown, reddened, routeSignals, redBehind, newSignals, afterDeed, after, Acts}
 use Rattle.events.proofs.Answer.{the-type as answers}
 use Rattle.events.proofs.Deed.{the-type as deeds}
-use Rattle.events.specs.Answers.{deedArrives, deedLeaves}
-use Rattle.events.specs.Decide.{listed, lieAfter}
-use Rattle.events.specs.After.{stood, gone, newTrains, newLies, taken, dropped, releases, droppedAll, arrived, routeHolds, givenBack, newHolds, shown, standsAt, reddened, routeSignals, redBehind, newSignals, afterDeed, after, Acts}
 use Rattle.act.specs.Cells.{turned, held, released, freed, Ready}
 use Rattle.act.proofs.Walks.{written, upTo, done-length, done-next, done-set}
 
@@ -64,7 +66,7 @@ module _ (p : Plan) (u : ℕ) (m : List ℕ) (s : ℕ) {homes : List ℕ} (e : h
 
 -- Arrivals: what the routes below n have given back.
 unfoldable pub gaveBack : Plan → ℕ → List ℕ → ℕ → ℕ → ℕ
-gaveBack p v m n q = droppedAll n (releases p v q) (getD m q 0)
+gaveBack p v m n q = droppedAll n (λ r. releases p r v q) (getD m q 0)
 
 released-has : (v q : ℕ) (l : List Release) → has q (released v (joined releaseFile l)) ≡ anyOf (λ release. eqb (release .track) v && eqb (release .point) q) l
 unfolding joined releaseFile released has anyOf

@@ -8,12 +8,13 @@ use Rattle.laws.specs.Tests.{Is}
 use Rattle.laws.specs.Lists.{All, all-at, all-map, joined}
 use Rattle.plan.specs.declared.Release.{Release}
 use Rattle.plan.specs.Limits.{mostTracks, mostSignals}
-use Rattle.plan.specs.Records.{Plan, noRoute, isPoint, routeOf}
+use Rattle.plan.specs.Kinds.{isPoint}
+use Rattle.plan.specs.Records.{Plan, noRoute, routeOf}
 use Rattle.plan.specs.File.{releaseFile, ReadableRelease, ReadableRoute, Readable}
+use Rattle.plan.proofs.Says.{point-below}
 use Rattle.events.specs.declared.Deed.{Deed}
 use Rattle.events.specs.declared.Deed.the-variants.{Granted, Cancelled, Entered, Moved, Left}
 use Rattle.events.specs.After.{Names}
-use Rattle.events.proofs.Facts.{point-below}
 use Rattle.act.specs.Cells.{Ready, Placed}
 
 -- A route that there is.

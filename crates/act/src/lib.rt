@@ -1,13 +1,13 @@
 // The code that acts on an answer. It goes by the answer alone: a deed goes array by array, as the definition of the state after does.
 use events::Answer;
 use events::Deed;
+use lists::wide;
 use plan::image::homes;
 use plan::image::normal_of;
 use plan::image::releases_of;
 use plan::image::reverse_of;
 use plan::image::routes;
 use plan::image::start_of;
-use plan::image::wide;
 use plan::limits::IMAGE;
 use state::HoldSet;
 use state::cells::CELLS;

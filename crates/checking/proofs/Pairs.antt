@@ -6,10 +6,11 @@ use native.Mathlib.Numerals.{add-one}
 use lib.ListN.{length}
 use Rattle.laws.specs.Tests.{Is}
 use Rattle.laws.specs.Search.{allBelow}
-use Rattle.plan.specs.Records.{Plan}
-use Rattle.plan.specs.Layout.{legged, leads}
-use Rattle.rules.specs.Rules.{isLeg, noneLeads, forbidden, ledOnce}
 use Rattle.laws.specs.Walks.{below-passed, below-failed, below-done}
+use Rattle.plan.specs.Kinds.{legged}
+use Rattle.plan.specs.Records.{Plan, trackOf}
+use Rattle.plan.specs.Layout.{leads}
+use Rattle.rules.specs.Rules.{isLeg, noneLeads, forbidden, ledOnce}
 
 -- of the tracks below u none is forbidden to lead to v, and `first` says whether none leads there
 pub record Led (p : Plan) (v u : ℕ) (first : Bool) : Type 0 where
@@ -37,7 +38,7 @@ module _ (p : Plan) (v : ℕ) where
       none = l .none ∙ rw (add-one u, ← e, t, and-true (noneLeads p v u));
     }
 
-    module _ {m : Bool} (t : b ≡ true) (w : m ≡ cond (legged p v) (not (isLeg p v u)) (not first)) where
+    module _ {m : Bool} (t : b ≡ true) (w : m ≡ cond (legged (trackOf p v)) (not (isLeg p v u)) (not first)) where
       judged : forbidden p v u ≡ m
       unfolding forbidden
       judged = rw (← e, t, ← l .none, ← w)

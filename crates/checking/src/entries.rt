@@ -1,9 +1,9 @@
 // Rules 4, 5 and 12, whose rows are signals and entries.
 use crate::tracks::none_leads;
-use layout::has;
 use layout::home_of;
 use layout::is_home;
 use layout::is_plain;
+use lists::has;
 use plan::image::entry_clear;
 use plan::image::entry_track;
 use plan::limits::IMAGE;

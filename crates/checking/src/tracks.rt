@@ -1,7 +1,7 @@
 // Rules 1 to 3, whose rows are tracks.
 use laws::Found;
-use layout::is_facing;
-use layout::is_trailing;
+use layout::is_forking;
+use layout::is_legged;
 use layout::leads_to;
 use layout::leg_of;
 use layout::way_out;
@@ -12,15 +12,16 @@ ghost use mathlib.Core.Bool.{true, false, not, cond, _&&_};
 ghost use lib.Dec.{eqb};
 ghost use lib.ListN.{length};
 ghost use Rattle.laws.specs.Search.{lowest};
-ghost use Rattle.plan.specs.Layout.{forks, legged, out, leg};
+ghost use Rattle.plan.specs.Kinds.{forks, legged, out, leg};
 ghost use Rattle.plan.specs.Image.{planOf};
+ghost use Rattle.plan.specs.Records.{trackOf};
 ghost use Rattle.rules.specs.Rules.{waysDiffer, legsLead, isLeg, noneLeads, ledOnce};
 
 // Whether a facing point has one way out for both lies.
 fn ways_meet(image: &[u8; IMAGE], track: usize) -> bool
-    ensures { λ r. ⌜ r ≡ (forks (planOf (now (image .entry))) track && eqb (out (planOf (now (image .entry))) track false) (out (planOf (now (image .entry))) track true)) ⌝ }
+    ensures { λ r. ⌜ r ≡ (forks (trackOf (planOf (now (image .entry))) track) && eqb (out (trackOf (planOf (now (image .entry))) track) false) (out (trackOf (planOf (now (image .entry))) track) true)) ⌝ }
 {
-    if is_facing(image, track) {
+    if is_forking(image, track) {
         return way_out(image, track, false) == way_out(image, track, true);
     }
     false
@@ -28,9 +29,9 @@ fn ways_meet(image: &[u8; IMAGE], track: usize) -> bool
 
 // Whether a trailing point has one leg for both lies.
 fn legs_meet(image: &[u8; IMAGE], track: usize) -> bool
-    ensures { λ r. ⌜ r ≡ (legged (planOf (now (image .entry))) track && eqb (leg (planOf (now (image .entry))) track false) (leg (planOf (now (image .entry))) track true)) ⌝ }
+    ensures { λ r. ⌜ r ≡ (legged (trackOf (planOf (now (image .entry))) track) && eqb (leg (trackOf (planOf (now (image .entry))) track) false) (leg (trackOf (planOf (now (image .entry))) track) true)) ⌝ }
 {
-    if is_trailing(image, track) {
+    if is_legged(image, track) {
         return leg_of(image, track, false) == leg_of(image, track, true);
     }
     false
@@ -48,7 +49,7 @@ pub fn ways_differ(image: &[u8; IMAGE], track: usize) -> bool
 pub fn legs_lead(image: &[u8; IMAGE], track: usize) -> bool
     ensures { λ r. ⌜ r ≡ legsLead (planOf (now (image .entry))) track ⌝ }
 {
-    if !is_trailing(image, track) {
+    if !is_legged(image, track) {
         return true;
     }
     if !leads_to(image, leg_of(image, track, false), track) {
@@ -68,9 +69,9 @@ fn is_leg(image: &[u8; IMAGE], point: usize, track: usize) -> bool
 
 // Whether a track that leads to another must not, given whether no lower one does.
 fn misleads(image: &[u8; IMAGE], to: usize, from: usize, first: bool) -> bool
-    ensures { λ r. ⌜ r ≡ cond (legged (planOf (now (image .entry))) to) (not (isLeg (planOf (now (image .entry))) to from)) (not first) ⌝ }
+    ensures { λ r. ⌜ r ≡ cond (legged (trackOf (planOf (now (image .entry))) to)) (not (isLeg (planOf (now (image .entry))) to from)) (not first) ⌝ }
 {
-    if is_trailing(image, to) {
+    if is_legged(image, to) {
         return !is_leg(image, to, from);
     }
     !first

@@ -7,8 +7,8 @@ use lib.Dec.{eqb, ltb}
 use borrow.Author.Tests.{ltb-true}
 use Rattle.laws.specs.Tests.{and-l}
 use Rattle.laws.specs.Search.{lowest-at, unless-ind}
-use Rattle.plan.specs.Records.{Plan, homeOf, routeOf, entryOf}
-use Rattle.plan.specs.Layout.{isExit}
+use Rattle.plan.specs.Kinds.{exit}
+use Rattle.plan.specs.Records.{Plan, homeOf, routeOf, entryOf, trackOf}
 use Rattle.plan.specs.File.{Readable}
 use Rattle.state.specs.declared.State.{State}
 use Rattle.events.specs.declared.Event.{Event}
@@ -62,7 +62,7 @@ module _ {p : Plan} (w : Readable p) (σ : State) where
   unfolding moveFrom Acts Names
   from-acts train u h =
       unless-ind (Acts p) _ _ _ (λ s _. tt)
-      (λ _. either (Acts p) (isExit p u) (λ _. h)
+      (λ _. either (Acts p) (exit (trackOf p u)) (λ _. h)
       (λ x. to-acts train u (wayOut p (σ .lies) u) h (next-within w h x (σ .lies))))
 
   move-acts : (train : ℕ) → Acts p (answerMove p (σ .trains) (σ .lies) (σ .signals) train)

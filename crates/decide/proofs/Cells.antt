@@ -11,10 +11,12 @@ use Rattle.laws.specs.declared.Found.{Found}
 use Rattle.laws.specs.declared.Found.the-variants.{At, Nothing}
 use Rattle.laws.specs.Tests.{split}
 use Rattle.laws.specs.Lists.{has}
-use Rattle.plan.specs.Records.{Plan}
-use Rattle.plan.specs.Layout.{legged, out, leg, signalAt}
+use Rattle.plan.specs.Kinds.{legged, out, leg}
+use Rattle.plan.specs.Records.{Plan, trackOf}
+use Rattle.plan.specs.Layout.{signalAt}
+use Rattle.plan.specs.Routes.{listed}
 use Rattle.state.specs.Holds.{empty}
-use Rattle.events.specs.Decide.{hasTrain, isRed, isReverse, busy, listed, heldListed, lieAfter, derails, redAt, wayOut, runsThrough}
+use Rattle.events.specs.Decide.{hasTrain, isRed, isReverse, busy, heldListed, lieAfter, derails, redAt, wayOut, runsThrough}
 
 -- 13: a track of a clear list has a train.
 module _ (clear trains : List ℕ) (u : ℕ) where
@@ -83,15 +85,15 @@ module _ (p : Plan) (signals : List ℕ) (u : ℕ) {found : Found} (f : found �
     red-green z = rw (← f, e, ne-eqb (getD signals s 0) 0 z)
 
 -- The track that a train goes to, and 41.
-pub goes : (p : Plan) (lies : List ℕ) (u : ℕ) {lie : Bool} → lie ≡ isReverse lies u → out p u lie ≡ wayOut p lies u
+pub goes : (p : Plan) (lies : List ℕ) (u : ℕ) {lie : Bool} → lie ≡ isReverse lies u → out (trackOf p u) lie ≡ wayOut p lies u
 unfolding wayOut
 goes p lies u e = rw e
 
 module _ (p : Plan) (lies : List ℕ) (u v : ℕ) where
-  pub runs-free : legged p v ≡ false → false ≡ runsThrough p lies u v
+  pub runs-free : legged (trackOf p v) ≡ false → false ≡ runsThrough p lies u v
   unfolding runsThrough
   runs-free e = rw e
 
-  pub runs-leg : legged p v ≡ true → {lie : Bool} → lie ≡ isReverse lies v → {from : ℕ} → from ≡ leg p v lie → not (eqb from u) ≡ runsThrough p lies u v
+  pub runs-leg : legged (trackOf p v) ≡ true → {lie : Bool} → lie ≡ isReverse lies v → {from : ℕ} → from ≡ leg (trackOf p v) lie → not (eqb from u) ≡ runsThrough p lies u v
   unfolding runsThrough
   runs-leg e l f = rw (e, ← l, f)

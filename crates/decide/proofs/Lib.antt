@@ -1,4 +1,3 @@
 pub mod Cells
-pub mod Chains
 pub mod Within
 pub mod Acting

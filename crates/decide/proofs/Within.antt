@@ -8,9 +8,11 @@ use lib.Dec.{eqb}
 use Rattle.laws.specs.declared.Found.the-variants.{At}
 use Rattle.laws.specs.Tests.{clash}
 use Rattle.laws.specs.Search.{lowest-at}
-use Rattle.plan.specs.Records.{Plan, homeOf}
-use Rattle.plan.specs.Layout.{isExit, signalAt}
+use Rattle.plan.specs.Kinds.{exit}
+use Rattle.plan.specs.Records.{Plan, homeOf, trackOf}
+use Rattle.plan.specs.Layout.{signalAt}
 use Rattle.plan.specs.File.{Readable}
+use Rattle.plan.proofs.Says.{exit-is}
 use Rattle.events.specs.Decide.{isReverse, wayOut}
 use Rattle.events.proofs.Facts.{out-below}
 
@@ -18,6 +20,6 @@ pub signal-within : (p : Plan) (u : ℕ) {s : ℕ} → signalAt p u ≡ At s →
 unfolding signalAt
 signal-within p u e = lowest-at (length (p .signals)) (λ s. eqb (homeOf p s) u) e .below
 
-pub next-within : {p : Plan} → Readable p → {u : ℕ} → u < length (p .tracks) → isExit p u ≡ false → (lies : List ℕ) → wayOut p lies u < length (p .tracks)
+pub next-within : {p : Plan} → Readable p → {u : ℕ} → u < length (p .tracks) → exit (trackOf p u) ≡ false → (lies : List ℕ) → wayOut p lies u < length (p .tracks)
 unfolding wayOut
-next-within {p} w {u} h x lies = out-below p w u (isReverse lies u) h (λ e. clash e x)
+next-within {p} w {u} h x lies = out-below p w u (isReverse lies u) h (λ e. clash (exit-is (trackOf p u) .1 e) x)

@@ -1,10 +1,10 @@
 // The tests of document 01, each over the lists and arrays that it looks at. Where several tracks or points apply, the lowest is named.
 use laws::Found;
-use layout::has;
 use layout::home_of;
-use layout::is_trailing;
+use layout::is_legged;
 use layout::leg_of;
 use layout::way_out;
+use lists::has;
 use plan::image::signals as signal_count;
 use plan::limits::IMAGE;
 use plan::limits::TRACKS;
@@ -182,7 +182,7 @@ pub fn runs_through(image: &[u8; IMAGE], cells: &[u8; CELLS], from: usize, to: u
     requires { ⌜ to < mostTracks ⌝ }
     ensures { λ r. ⌜ r ≡ runsThrough (planOf (now (image .entry))) (liesIn (now (cells .entry))) from to ⌝ }
 {
-    if is_trailing(image, to) {
+    if is_legged(image, to) {
         return leg_of(image, to, is_reverse(cells, to)) != from;
     }
     false

@@ -5,11 +5,12 @@ use mathlib.Core.Logic.{inl, inr}
 use Prim.Native.Nat.{ℕ, suc, _<_}
 use native.Mathlib.Omega.{arith}
 use Rattle.laws.specs.Tests.{same?}
-use Rattle.plan.specs.Records.{Plan, homeOf}
+use Rattle.laws.specs.Answers.{None}
+use Rattle.plan.specs.Kinds.{leg, Exit}
+use Rattle.plan.specs.Records.{Plan, homeOf, trackOf}
+use Rattle.plan.specs.Layout.{Home}
+use Rattle.plan.specs.Routes.{Listed, pathLength, trackAt}
 use Rattle.plan.specs.File.{Readable}
-use Rattle.plan.specs.Layout.{leg}
-use Rattle.rules.specs.Rules.{pathLength, trackAt}
-use Rattle.rules.specs.Sentences.{Exit, Home}
 use Rattle.rules.specs.Verdict.{Sound}
 use Rattle.rules.proofs.Numbered.{twelve}
 use Rattle.state.specs.declared.State.{State}
@@ -17,12 +18,11 @@ use Rattle.state.specs.State.{trainAt, lieAt, shownAt, HasTrain, WellFormed}
 use Rattle.events.specs.declared.Harm.{Harm}
 use Rattle.events.specs.declared.Harm.the-variants.{Collision, RunThrough, Derailment}
 use Rattle.events.specs.declared.Answer.the-variants.{Accident}
-use Rattle.laws.specs.Answers.{None}
-use Rattle.events.specs.Meaning.{Listed, OtherLie, RedAt, RunsThrough}
+use Rattle.events.specs.Meaning.{OtherLie, RedAt, RunsThrough}
 use Rattle.events.proofs.Told.{Step, Told}
-use Rattle.demands.proofs.Cases.{home?, same-lie, leg-lie}
-use Rattle.demands.proofs.Facts.{kind-exit, trailing-kind, at-home, path-some, listed-clear}
 use Rattle.events.proofs.Follow.{not-red}
+use Rattle.demands.proofs.Cases.{home?, same-lie, leg-lie}
+use Rattle.demands.proofs.Facts.{at-home, path-some, listed-clear}
 use Rattle.demands.proofs.Invariant.{Mobile, Place, Way, Invariant, leg-ahead, goes-on}
 
 other-listed : (p : Plan) (σ : State) (r x : ℕ) → OtherLie p σ r x → Listed p r x
@@ -31,7 +31,7 @@ other-listed p σ r x (inr w) = inl (w .1)
 
 module _ (p : Plan) (reads : Readable p) (sound : Sound p) (σ : State) (inv : Invariant p σ) (formed : WellFormed p σ) where
   -- the train may go on: its signal is green for a route, or it is on its way and not at the end
-  place : (u : ℕ) → Mobile σ u → None (RedAt p σ u) → (Exit p u → ⊥) → (pl : Place p σ u) × (pl .i < pathLength p (pl .r))
+  place : (u : ℕ) → Mobile σ u → None (RedAt p σ u) → (Exit (trackOf p u) → ⊥) → (pl : Place p σ u) × (pl .i < pathLength p (pl .r))
   place u t go off = elim (home? p u) [
     | inl h ↦ at-signal h
     | inr h ↦ (let pl = inv .away u t h in (pl, not-last pl h))
@@ -54,7 +54,7 @@ module _ (p : Plan) (reads : Readable p) (sound : Sound p) (σ : State) (inv : I
 
   pub way : {train u v : ℕ} → Step p σ train u v → Way p σ u v
   way {u = u} {v = v} s =
-      let (pl, more) = place u (λ z. s .front .numbered (sym (s .front .at) ∙ z)) (s .front .notRed) (λ x. s .onward (kind-exit p u x)) in
+      let (pl, more) = place u (λ z. s .front .numbered (sym (s .front .at) ∙ z)) (s .front .notRed) (s .onward) in
       record { r = pl .r; i = pl .i; from = pl .at; to = goes-on p reads sound σ inv (pl .r) (pl .i) v (pl .ahead) more (rw (pl .at) (s .next)); more = more; ahead = pl .ahead }
 
   free-ahead : {u v : ℕ} → Way p σ u v → HasTrain σ v → ⊥
@@ -63,9 +63,9 @@ module _ (p : Plan) (reads : Readable p) (sound : Sound p) (σ : State) (inv : I
   lies-for : {u v : ℕ} → Way p σ u v → RunsThrough p σ u v → ⊥
   lies-for {u} {v} w x =
       let (lie, l, d) = leg-lie p σ u v x in
-      let (way, m, e) = leg-ahead p reads sound σ inv (w .r) (w .i) (w .i) (w .ahead) (omega arith) (w .more) (rw (w .to) (trailing-kind p v (x .0))) in
+      let (way, m, e) = leg-ahead p reads sound σ inv (w .r) (w .i) (w .i) (w .ahead) (omega arith) (w .more) (rw (w .to) (x .0)) in
       let same : lie ≡ way = same-lie lie way (sym l ∙ sym (ap (lieAt σ) (w .to)) ∙ m) in
-      d (ap (leg p v) same ∙ sym (ap (λ y. leg p y way) (w .to)) ∙ e ∙ w .from)
+      d (ap (leg (trackOf p v)) same ∙ sym (ap (λ y. leg (trackOf p y) way) (w .to)) ∙ e ∙ w .from)
 
   pub no-accident : (harm : Harm) → Told p σ (Accident harm) → ⊥
   no-accident (Derailment x) (r, known, clear, (t, other)) = clear x (listed-clear p reads sound r known x (other-listed p σ r x other), t)

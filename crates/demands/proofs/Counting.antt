@@ -1,6 +1,6 @@
 -- Comings and goings: each answer that lets a train come or go changes what the state shows by just that.
 use mathlib.Core.Path.{_≡_, sym, ap, _∙_}
-use mathlib.Core.Logic.{_≢_, _⊎_, inl, inr}
+use mathlib.Core.Logic.{_≢_, _⊎_, inl, inr, _↔_}
 use mathlib.Core.List.{List, [], _∷_, _++_}
 use Prim.Native.Nat.{ℕ, _+_, _≤_}
 use native.Mathlib.Omega.{arith}
@@ -8,15 +8,14 @@ use borrow.Author.Tests.{eq-eqb, ne-eqb}
 use Rattle.laws.specs.declared.Found.the-variants.{At}
 use Rattle.laws.specs.Tests.{same?}
 use Rattle.plan.specs.Records.{Plan}
-use Rattle.rules.specs.Sentences.{Exactly}
 use Rattle.state.specs.declared.State.{State}
 use Rattle.state.specs.State.{noTrain, trainAt, HasTrain}
 use Rattle.events.specs.declared.Answer.{Answer}
 use Rattle.events.specs.declared.Deed.the-variants.{Granted, Cancelled, Entered, Moved, Left}
 use Rattle.events.specs.declared.Answer.the-variants.{Refused, Accident, Done}
-use Rattle.events.proofs.Told.{Told}
 use Rattle.events.specs.Answers.{deedComes, deedLeaves, deedArrives}
 use Rattle.events.specs.Meaning.{Follows}
+use Rattle.events.proofs.Told.{Told}
 use Rattle.demands.specs.Demands.{onceAt, comes, goes, total, shown}
 
 -- What the state shows.
@@ -39,7 +38,7 @@ train? σ u = same? (trainAt σ u) noTrain
 pub shown-most : (σ : State) (u : ℕ) → shown σ u ≤ 1
 shown-most σ u = elim (train? σ u) [ inl e ↦ omega (arith, shown-none σ u e) | inr t ↦ omega (arith, shown-one σ u t) ]
 
-pub shown-train : (σ : State) (u : ℕ) → Exactly (shown σ u ≡ 1) (HasTrain σ u)
+pub shown-train : (σ : State) (u : ℕ) → (shown σ u ≡ 1) ↔ HasTrain σ u
 shown-train σ u = (λ e z. let y = shown-none σ u z in omega arith, shown-one σ u)
 
 -- One more answer.

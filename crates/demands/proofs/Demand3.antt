@@ -21,8 +21,8 @@ use Rattle.events.specs.Answers.{refusalNumber}
 use Rattle.events.specs.Meaning.{Follows}
 use Rattle.events.proofs.Told.{Told}
 use Rattle.events.proofs.Given.{told}
-use Rattle.demands.specs.Demands.{Box, Demand2, history, reached, total, Safe, Demand3}
 use Rattle.events.proofs.Kept.{stays, fresh-formed, no-train, no-hold}
+use Rattle.demands.specs.Demands.{Box, Demand2, history, reached, total, Safe, Demand3}
 use Rattle.demands.proofs.Invariant.{Invariant, fresh-invariant}
 use Rattle.demands.proofs.Accidents.{no-accident}
 use Rattle.demands.proofs.Steps.{keeps}

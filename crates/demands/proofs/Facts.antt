@@ -1,39 +1,22 @@
 -- What a readable and sound plan gives, in the form in which the proofs use it. With `trackAt r 0` the home of route r, and its path from 1 on.
 use mathlib.Core.Path.{_≡_, refl, sym}
-use mathlib.Core.Bool.{Bool}
 use mathlib.Core.Logic.{inl, inr}
 use Prim.Native.Nat.{ℕ, zero, suc, _<_, _≤_}
-use native.Mathlib.Omega.{arith}
 use lib.ListN.{length}
-use borrow.Author.Tests.{eqb-true, eq-eqb, ne-eqb}
-use Rattle.laws.specs.Tests.{Is, same?}
+use Rattle.laws.specs.Tests.{same?}
 use Rattle.laws.specs.Lists.{In}
-use Rattle.plan.specs.Records.{Plan, facing, trailing, exit, trackOf, homeOf, routeOf}
+use Rattle.plan.specs.Kinds.{Forks, Legged}
+use Rattle.plan.specs.Records.{Plan, trackOf, homeOf, routeOf}
+use Rattle.plan.specs.Layout.{Leads}
+use Rattle.plan.specs.Routes.{Listed, Releases, pathLength, wayOf, trackAt}
 use Rattle.plan.specs.File.{Readable}
-use Rattle.plan.specs.Layout.{isExit, forks, legged, out}
-use Rattle.rules.specs.Rules.{pathLength, wayOf, trackAt, releaseOf}
-use Rattle.rules.specs.Sentences.{Exit, Facing, Trailing, Leads}
+use Rattle.plan.proofs.Says.{plain-straight}
 use Rattle.rules.specs.Verdict.{Sound}
 use Rattle.rules.proofs.Numbered.{twelve}
-use Rattle.events.specs.Meaning.{Listed, Releases}
 use Rattle.events.proofs.Facts.{each-in, route-read, home-below, start-below}
-use Rattle.demands.proofs.Cases.{listed-lie}
 
--- Kinds.
+-- The way of a route.
 module _ (p : Plan) where
-  pub kind-exit : (u : ℕ) → Exit p u → Is (isExit p u)
-  unfolding isExit
-  kind-exit u e = eq-eqb _ exit e
-
-  pub trailing-kind : (v : ℕ) → Is (legged p v) → Trailing p v
-  unfolding legged
-  trailing-kind v e = eqb-true _ trailing e
-
-  -- a track that is no facing point has one way out
-  pub straight : (u : ℕ) (a b : Bool) → (Facing p u → ⊥) → out p u a ≡ out p u b
-  unfolding out forks
-  straight u a b n = rw (ne-eqb (trackOf p u .kind) facing n)
-
   pub at-home : (r : ℕ) → trackAt p r 0 ≡ homeOf p (routeOf p r .start)
   unfolding trackAt wayOf
   at-home r = refl
@@ -58,25 +41,23 @@ module _ (p : Plan) (reads : Readable p) where
 -- What a sound plan gives.
 module _ (p : Plan) (reads : Readable p) (sound : Sound p) where
   -- a track that is no trailing point has one track that leads to it
-  pub one-before : (u w v : ℕ) → v < length (p .tracks) → (Trailing p v → ⊥) → Leads p u v → Leads p w v → u ≡ w
+  pub one-before : (u w v : ℕ) → v < length (p .tracks) → (Legged (trackOf p v) → ⊥) → Leads p u v → Leads p w v → u ≡ w
   one-before u w v h n a b = elim (same? u w) [ inl e ↦ e | inr e ↦ absurd (n (((twelve sound .rule3 v h) .two u w a b e) .0)) ]
 
   -- a home is no facing point
-  pub home-straight : (s : ℕ) → s < length (p .signals) → Facing p (homeOf p s) → ⊥
-  home-straight s h e = let z = twelve sound .rule4 s h in omega arith
+  pub home-straight : (s : ℕ) → s < length (p .signals) → Forks (trackOf p (homeOf p s)) → ⊥
+  home-straight s h e = plain-straight (trackOf p (homeOf p s)) (twelve sound .rule4 s h) e
 
   module _ (r : ℕ) (known : r < length (p .routes)) where
     -- the points that r lists are given back on its path, later than they are passed
-    pub release-on : (v x : ℕ) → Releases p v x r → (k : ℕ) × (k < pathLength p r) × (trackAt p r (suc k) ≡ v)
-    unfolding releaseOf
+    pub release-on : (v x : ℕ) → Releases p r v x → (k : ℕ) × (k < pathLength p r) × (trackAt p r (suc k) ≡ v)
     release-on v x (i, h, e, f) = path-at p r v (rw e at ((twelve sound .rule11 r known) .on-path i h))
 
-    pub release-later : (i j : ℕ) → i < pathLength p r → j < pathLength p r → Releases p (trackAt p r (suc j)) (trackAt p r (suc i)) r → i < j
-    unfolding releaseOf
+    pub release-later : (i j : ℕ) → i < pathLength p r → j < pathLength p r → Releases p r (trackAt p r (suc j)) (trackAt p r (suc i)) → i < j
     release-later i j hi hj (k, h, e, f) = (twelve sound .rule11 r known) .after k i j h hi hj (sym f) (sym e)
 
     pub listed-clear : (x : ℕ) → Listed p r x → In x (routeOf p r .clear)
-    listed-clear x w = twelve sound .rule10 r known x (listed-lie p r x w)
+    listed-clear x w = twelve sound .rule10 r known x w
 
     pub path-clear : (i : ℕ) → i < pathLength p r → In (trackAt p r (suc i)) (routeOf p r .clear)
     path-clear i h = twelve sound .rule8 r known (trackAt p r (suc i)) (on-path p r i h)

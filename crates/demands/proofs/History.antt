@@ -1,24 +1,24 @@
 -- Holds by history: a hold is there exactly if the history splits at the route's latest grant with nothing after it that gives the hold back.
 use mathlib.Core.Path.{_≡_, refl, sym, ap, _∙_, subst}
-use mathlib.Core.Logic.{_≢_, _⊎_, inl, inr}
+use mathlib.Core.Logic.{_≢_, _⊎_, inl, inr, _↔_}
 use mathlib.Core.List.{List, [], _∷_, _++_, append-assoc}
 use Prim.Native.Nat.{ℕ}
 use Rattle.laws.specs.declared.Found.the-variants.{At, Nothing}
 use Rattle.laws.specs.Tests.{never, same?}
 use Rattle.laws.specs.Lists.{All}
 use Rattle.plan.specs.Records.{Plan}
-use Rattle.rules.specs.Sentences.{Exactly}
+use Rattle.plan.specs.Routes.{Listed, Releases}
 use Rattle.state.specs.declared.State.{State}
 use Rattle.state.specs.State.{heldBy, Holds}
 use Rattle.events.specs.declared.Answer.{Answer}
 use Rattle.events.specs.declared.Deed.the-variants.{Granted, Cancelled, Entered, Moved, Left}
 use Rattle.events.specs.declared.Answer.the-variants.{Refused, Accident, Done}
 use Rattle.events.specs.Answers.{deedArrives, arrivesOn}
-use Rattle.events.specs.Meaning.{Listed, Releases, Follows}
+use Rattle.events.specs.Meaning.{Follows}
 use Rattle.events.proofs.Told.{Told}
-use Rattle.demands.specs.Demands.{SinceGrant}
 use Rattle.events.proofs.Cases.{listed?, releases?}
 use Rattle.events.proofs.Follow.{grant-holds, cancel-holds, move-holds}
+use Rattle.demands.specs.Demands.{SinceGrant}
 
 -- Lists with one more element at the end.
 
@@ -49,7 +49,7 @@ module _ (p : Plan) (r x : ℕ) where
   record Spares (a : Answer) : Type 0 where
     ungranted : a ≢ Done (Granted r)
     uncancelled : a ≢ Done (Cancelled r)
-    unreleased : (v : ℕ) → arrivesOn a ≡ At v → Releases p v x r → ⊥
+    unreleased : (v : ℕ) → arrivesOn a ≡ At v → Releases p r v x → ⊥
 
   -- an answer by which no train arrives
   quiet : {a : Answer} → a ≢ Done (Granted r) → a ≢ Done (Cancelled r) → arrivesOn a ≡ Nothing → Spares a
@@ -80,14 +80,14 @@ module _ (p : Plan) (r x : ℕ) where
       | inr d ↦ inl (quiet (λ e. never (cc)) (λ e. d (cc)) refl)
     ]
     ends? (Done (Entered train u)) f = inl (quiet (λ e. never (cc)) (λ e. never (cc)) refl)
-    ends? (Done (Moved train u v)) f = elim (releases? p v x r) [
+    ends? (Done (Moved train u v)) f = elim (releases? p r v x) [
       | inl e ↦ inr (inr (f .holds r x e))
       | inr d ↦ inl (record { ungranted = λ e. never (cc); uncancelled = λ e. never (cc); unreleased = λ w e. let z : v ≡ w = cc in rw z at d })
     ]
     ends? (Done (Left train u)) f = inl (quiet (λ e. never (cc)) (λ e. never (cc)) refl)
 
     -- The history after one more answer.
-    module _ (h : List Answer) (a : Answer) (f : Follows p σ τ a) (so-far : Exactly (Holds σ r x) (Listed p r x × SinceGrant p r x h)) where
+    module _ (h : List Answer) (a : Answer) (f : Follows p σ τ a) (so-far : Holds σ r x ↔ (Listed p r x × SinceGrant p r x h)) where
       still : Spares a → SinceGrant p r x h → SinceGrant p r x (h ++ (a ∷ []))
       still s since = record {
         earlier = since .earlier;
@@ -102,7 +102,7 @@ module _ (p : Plan) (r x : ℕ) where
       unfolding All
       now e = record { earlier = h; later = []; splits = ap (λ b. h ++ (b ∷ [])) e; latest = tt; uncancelled = tt; unreleased = tt }
 
-      pub held-after : Exactly (Holds τ r x) (Listed p r x × SinceGrant p r x (h ++ (a ∷ [])))
+      pub held-after : Holds τ r x ↔ (Listed p r x × SinceGrant p r x (h ++ (a ∷ [])))
       held-after = (forth, back)
         where
           granted : a ≡ Done (Granted r) → Holds τ r x → Listed p r x × SinceGrant p r x (h ++ (a ∷ []))

@@ -8,6 +8,7 @@ use native.Mathlib.Omega.{arith}
 use native.Mathlib.Nat.{not-suc-le-zero}
 use lib.ListN.{length}
 use Rattle.laws.specs.Tests.{never, same?}
+use Rattle.laws.specs.Answers.{None, Gives}
 use Rattle.plan.specs.Records.{Plan, entryOf}
 use Rattle.state.specs.declared.State.{State}
 use Rattle.state.specs.State.{noTrain, trainAt, HasTrain, WellFormed, fresh}
@@ -19,14 +20,13 @@ use Rattle.events.specs.declared.Harm.the-variants.{Collision}
 use Rattle.events.specs.declared.Answer.{Answer}
 use Rattle.events.specs.declared.Deed.the-variants.{Entered, Moved, Left}
 use Rattle.events.specs.declared.Answer.the-variants.{Refused, Accident, Done}
-use Rattle.laws.specs.Answers.{None, Gives}
 use Rattle.events.specs.Answers.{deedComes, deedLeaves}
 use Rattle.events.specs.Meaning.{InPlan, Busy, enterTable, eventTable, tableOf, Given, AfterEntry, Follows}
 use Rattle.events.proofs.Told.{Told}
 use Rattle.events.proofs.Given.{one-given as one-given-in, told}
+use Rattle.events.proofs.Kept.{stays, fresh-formed, no-train}
 use Rattle.demands.specs.Demands.{Box, Demand2, history, reached, onceAt, comes, goes, total, shown, Demand3}
 use Rattle.demands.specs.Impostors.{Stock, hasty, hushed, hush, Impostors}
-use Rattle.events.proofs.Kept.{stays, fresh-formed, no-train}
 use Rattle.demands.proofs.Invariant.{Invariant}
 use Rattle.demands.proofs.Accidents.{no-accident}
 use Rattle.demands.proofs.Counting.{once-same, once-other}

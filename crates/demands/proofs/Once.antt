@@ -4,12 +4,13 @@ use mathlib.Core.Bool.{Bool, true, false}
 use mathlib.Core.Logic.{inl, inr}
 use Rattle.laws.specs.Tests.{Is, same?}
 use Rattle.plan.specs.Records.{Plan, routeOf}
+use Rattle.plan.specs.Routes.{Listed}
 use Rattle.state.specs.declared.State.{State}
 use Rattle.events.specs.declared.Deed.{Deed}
 use Rattle.events.specs.declared.Deed.the-variants.{Granted, Cancelled, Entered, Moved, Left}
 use Rattle.events.specs.declared.Answer.the-variants.{Refused, Accident, Done}
 use Rattle.events.specs.declared.Answer.{Answer}
-use Rattle.events.specs.Meaning.{Listed, FollowsDeed, Follows}
+use Rattle.events.specs.Meaning.{FollowsDeed, Follows}
 use Rattle.events.proofs.Given.{one-given}
 use Rattle.events.proofs.Cases.{in?, listed?, releases?, standsAt?}
 use Rattle.demands.specs.Demands.{SameState, NoChoice}
@@ -58,7 +59,7 @@ deed-once p σ τ ω (Moved train u v) f g = record {
     | inr e ↦ (elim (same? x v) [ inl d ↦ rw d (g .stands ∙ sym (f .stands)) | inr d ↦ g .otherTrains x e d ∙ sym (f .otherTrains x e d) ])
   ];
   lies = λ x. g .lies x ∙ sym (f .lies x);
-  holds = λ k x. elim (releases? p v x k) [ inl e ↦ off _ _ (g .holds k x e) (f .holds k x e) | inr e ↦ g .otherHolds k x e ∙ sym (f .otherHolds k x e) ];
+  holds = λ k x. elim (releases? p k v x) [ inl e ↦ off _ _ (g .holds k x e) (f .holds k x e) | inr e ↦ g .otherHolds k x e ∙ sym (f .otherHolds k x e) ];
   signals = λ s. elim (standsAt? p u s) [ inl e ↦ g .signal s e ∙ sym (f .signal s e) | inr e ↦ g .otherSignals s e ∙ sym (f .otherSignals s e) ];
 }
 deed-once p σ τ ω (Left train u) f g = record {

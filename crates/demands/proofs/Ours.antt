@@ -2,7 +2,7 @@
 use mathlib.Core.Path.{refl}
 use mathlib.Core.Logic.{_≢_}
 use Rattle.plan.specs.Records.{Plan}
-use Rattle.scan.proofs.Meaning.{reads-readable}
+use Rattle.reading.proofs.Meaning.{reads-readable}
 use Rattle.rules.specs.Verdict.{Breaks, verdict, ruleNumber, ruleRow}
 use Rattle.rules.specs.declared.Verdict.{Verdict}
 use Rattle.rules.specs.declared.Verdict.the-variants.{Accepted, Broken}

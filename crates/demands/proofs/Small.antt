@@ -6,7 +6,8 @@ use Prim.Native.Nat.{ℕ, _<_}
 use native.Mathlib.Omega.{arith}
 use Rattle.laws.specs.Lists.{All}
 use Rattle.plan.specs.Limits.{mostClear}
-use Rattle.plan.specs.Records.{Plan, plain, exit, limitOf, uses}
+use Rattle.plan.specs.Kinds.{plainKind, exitKind, limitOf, uses}
+use Rattle.plan.specs.Records.{Plan}
 use Rattle.plan.specs.File.{Rises, Within, Readable}
 use Rattle.rules.specs.Verdict.{Sound}
 use Rattle.rules.proofs.Computed.{computed}
@@ -14,7 +15,7 @@ use Rattle.rules.proofs.Verdicts.{accepted-exactly}
 
 unfoldable pub small : List ℕ → Plan
 small clear = record {
-  tracks = record { kind = plain; first = 1; second = 0; third = 0 } ∷ record { kind = exit; first = 0; second = 0; third = 0 } ∷ [];
+  tracks = record { kind = plainKind; first = 1; second = 0; third = 0 } ∷ record { kind = exitKind; first = 0; second = 0; third = 0 } ∷ [];
   signals = 0 ∷ [];
   routes = [];
   entries = record { track = 0; clear = clear } ∷ [];

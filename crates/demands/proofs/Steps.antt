@@ -8,10 +8,11 @@ use native.Mathlib.Omega.{arith}
 use lib.ListN.{length}
 use Rattle.laws.specs.Tests.{same?, below?}
 use Rattle.laws.specs.Lists.{In}
+use Rattle.laws.specs.Answers.{None}
 use Rattle.plan.specs.Records.{Plan, routeOf, entryOf}
+use Rattle.plan.specs.Layout.{Home}
+use Rattle.plan.specs.Routes.{pointsOf, Listed, Releases, pathLength, trackAt}
 use Rattle.plan.specs.File.{Readable}
-use Rattle.rules.specs.Rules.{pathLength, trackAt, pointsOf}
-use Rattle.rules.specs.Sentences.{Home}
 use Rattle.rules.specs.Verdict.{Sound}
 use Rattle.rules.proofs.Numbered.{twelve}
 use Rattle.state.specs.declared.State.{State}
@@ -19,22 +20,21 @@ use Rattle.state.specs.State.{noTrain, greenFor, trainAt, lieAt, shownAt, HasTr
 use Rattle.events.specs.declared.Answer.{Answer}
 use Rattle.events.specs.declared.Deed.the-variants.{Granted, Cancelled, Entered, Moved, Left}
 use Rattle.events.specs.declared.Answer.the-variants.{Refused, Accident, Done}
-use Rattle.laws.specs.Answers.{None}
+use Rattle.events.specs.Meaning.{Busy, HeldListed, SignalGreen, AfterGrant, AfterCancel, AfterEntry, AfterMove, AfterLeaving, Follows}
 use Rattle.events.proofs.Told.{Told}
 use Rattle.events.proofs.Kept.{stood}
-use Rattle.events.specs.Meaning.{Listed, Busy, HeldListed, SignalGreen, Releases, AfterGrant, AfterCancel, AfterEntry, AfterMove, AfterLeaving, Follows}
 use Rattle.events.proofs.Facts.{start-below}
 use Rattle.events.proofs.Cases.{listed?}
+use Rattle.events.proofs.Follow.{green-red, grant-holds, grant-keeps, grant-green, cancel-holds, cancel-signal, move-from, move-empty, move-holds, move-signal, leave-trains, leave-signal}
 use Rattle.demands.proofs.Cases.{lieOf}
 use Rattle.demands.proofs.Facts.{at-home, path-clear, release-on}
-use Rattle.events.proofs.Follow.{green-red, grant-holds, grant-keeps, grant-green, cancel-holds, cancel-signal, move-from, move-empty, move-holds, move-signal, leave-trains, leave-signal}
 use Rattle.demands.proofs.Invariant.{Ahead, Mobile, Place, Way, Invariant, sole}
 use Rattle.demands.proofs.Accidents.{way}
 
 -- What is ahead stays so where no train comes onto it and no hold is dropped but by a release that comes first.
 ahead-kept : {p : Plan} {σ τ : State} {q n : ℕ} → Ahead p σ q n
     → ((k : ℕ) → n < suc k → k < pathLength p q → trainAt σ (trackAt p q (suc k)) ≡ noTrain → trainAt τ (trackAt p q (suc k)) ≡ noTrain)
-    → ((x : ℕ) → Listed p q x → ((j : ℕ) → j ≤ n → Releases p (trackAt p q j) x q → ⊥) → Holds σ q x → Holds τ q x) → Ahead p τ q n
+    → ((x : ℕ) → Listed p q x → ((j : ℕ) → j ≤ n → Releases p q (trackAt p q j) x → ⊥) → Holds σ q x → Holds τ q x) → Ahead p τ q n
 ahead-kept {p} {σ} {τ} {q} {n} a free holds = record {
   known = a .known;
   within = a .within;
@@ -163,7 +163,7 @@ module _ (p : Plan) (reads : Readable p) (sound : Sound p) (σ : State) (inv : I
         (λ k h l z. move-empty m (trackAt p q (suc k)) (apart q n a d k h l) z)
         (λ x l kept h. m .otherHolds q x (unreleased x kept) ∙ h)
       where
-        unreleased : (x : ℕ) → ((j : ℕ) → j ≤ n → Releases p (trackAt p q j) x q → ⊥) → Releases p v x q → ⊥
+        unreleased : (x : ℕ) → ((j : ℕ) → j ≤ n → Releases p q (trackAt p q j) x → ⊥) → Releases p q v x → ⊥
         unreleased x kept f =
             let (k, l, e) = release-on p reads sound q (a .known) v x f in
             elim (below? n (suc k)) [

@@ -6,8 +6,8 @@ use mathlib.Core.List.{List}
 use Prim.Native.Nat.{ℕ}
 use Rattle.plan.specs.Records.{Plan}
 use Rattle.plan.specs.File.{Readable}
-use Rattle.scan.specs.declared.Form.{Form}
-use Rattle.scan.specs.Reading.{Got, form, got, formNumber, formOffset}
+use Rattle.reading.specs.declared.Form.{Form}
+use Rattle.reading.specs.Reading.{Got, form, got, formNumber, formOffset}
 use Rattle.rules.specs.declared.Verdict.{Verdict}
 use Rattle.rules.specs.declared.Verdict.the-variants.{Accepted}
 use Rattle.rules.specs.Verdict.{ruleNumber, ruleRow}

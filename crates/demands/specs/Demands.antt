@@ -1,24 +1,27 @@
 -- The demands on a box, as document 01 makes them, stated of any box: what it answers and its next state, for a plan, a state and an event. Each is
 -- followed by the theorem, in proofs/, that speaks of it. The page rests on these definitions, and on nothing else:
---   plan/specs/Records.antt      Plan; plan/specs/File.antt: Readable, the plans that a file can hold
---   scan/specs/Reading.antt      parse, what a file holds: a plan, or the form of the first bad byte (scan/proofs/Meaning.antt says what that means)
---   rules/specs/Sentences.antt   the twelve plan rules, each as its sentence of a row; Exactly
+--   plan/specs/Limits.antt       the numbers of document 01: how many of each a plan may have
+--   plan/specs/Records.antt      Plan; plan/specs/Kinds.antt: Plain, Exit, Forks, Legged, isPoint, out, leg, uses, what a track is; plan/specs/File.antt: Readable,
+--                                the plans that a file can hold
+--   plan/specs/Layout.antt       Leads, Home, StandsAt; plan/specs/Routes.antt: trackAt, pointsOf, Listed, Released, Releases, what a route says
+--   reading/specs/Reading.antt   parse, what a file holds: a plan, or the form of the first bad byte (reading/proofs/Meaning.antt says what that means)
+--   rules/specs/Sentences.antt   the twelve plan rules, each as its sentence of a row
 --   rules/specs/Verdict.antt     rules, their list; Sound, each sentence is true of every row; Breaks, the lowest broken rule and row; ruleNumber and ruleRow, the
 --                                document's numbers of a Verdict (rules/src/lib.rt)
 --   state/specs/State.antt       State (state/src/lib.rt) and its views trainAt, HasTrain, Holds; fresh; WellFormed
 --   events/src/lib.rt            Event, Answer, Refusal, Harm, Deed; events/specs/Events.antt: eventsOf, the events of any bytes
 --   events/specs/Answers.antt    comesOn, arrivesOn, leavesFrom: where an answer, if it is a deed (ifDone), brings a train or takes one away
---   events/specs/Meaning.antt    Given, the table of answers; Follows, what a state shows after an answer; SameTrains and so on; Listed, Releases:
---                                what a route lists and gives back; Alike
+--   events/specs/Meaning.antt    Given, the table of answers; Follows, what a state shows after an answer; SameTrains and so on; Alike
 --   laws/specs/Answers.antt      Table, the rows of a table of answers, and Gives, the answer that it gives
---   laws/specs/Lists.antt        All: each element of a list is so; laws/src/lib.rt: Found
+--   laws/specs/Lists.antt        All: each element of a list is so; In: a number stands in a list; laws/src/lib.rt: Found; laws/specs/Sets.antt: member, the bits
+--                                of a number (a route holds a point); laws/specs/Tests.antt: Is, a test is passed
 -- Demand 1, always an answer, needs no definition here: the functions of the public face (signalbox/src/lib.rt) ask nothing of their callers, and
 -- every function is proved to end.
 -- Signs: `(x : ℕ) → A` for every number x, A; `(x : ℕ) × A` there is a number x with A; `A → B` if A then B; `A × B` both; `A ⊎ B` one of the two;
--- `A → ⊥` not A; `x ≡ y` equal, `x ≢ y` not.
+-- `A ↔ B` each gives the other; `A → ⊥` not A; `x ≡ y` equal, `x ≢ y` not.
 use mathlib.Core.Path.{_≡_}
 use mathlib.Core.Bool.{cond}
-use mathlib.Core.Logic.{_≢_}
+use mathlib.Core.Logic.{_≢_, _↔_}
 use mathlib.Core.List.{List, [], _∷_, _++_}
 use Prim.Native.Nat.{ℕ, _+_, _≤_}
 use lib.Dec.{eqb}
@@ -26,11 +29,11 @@ use Rattle.laws.specs.declared.Found.{Found}
 use Rattle.laws.specs.declared.Found.the-variants.{At, Nothing}
 use Rattle.laws.specs.Lists.{All}
 use Rattle.plan.specs.Records.{Plan}
+use Rattle.plan.specs.Routes.{Listed, Releases}
 use Rattle.plan.specs.File.{Readable}
-use Rattle.scan.specs.Reading.{Got, parse}
+use Rattle.reading.specs.Reading.{Got, parse}
 use Rattle.rules.specs.declared.Verdict.{Verdict}
 use Rattle.rules.specs.declared.Verdict.the-variants.{Accepted}
-use Rattle.rules.specs.Sentences.{Exactly}
 use Rattle.rules.specs.Verdict.{Sound, Breaks, ruleNumber, ruleRow}
 use Rattle.state.specs.declared.State.{State}
 use Rattle.state.specs.State.{noTrain, trainAt, HasTrain, Holds, WellFormed, fresh}
@@ -42,7 +45,7 @@ use Rattle.events.specs.declared.Deed.the-variants.{Granted, Cancelled}
 use Rattle.events.specs.declared.Answer.{Answer}
 use Rattle.events.specs.declared.Answer.the-variants.{Refused, Accident, Done}
 use Rattle.events.specs.Answers.{comesOn, arrivesOn, leavesFrom}
-use Rattle.events.specs.Meaning.{Given, Follows, Listed, Releases, Alike, SameTrains, SameLies, SameHolds, SameSignals}
+use Rattle.events.specs.Meaning.{Given, Follows, Alike, SameTrains, SameLies, SameHolds, SameSignals}
 
 pub record Box : Type 0 where
   pub answer : Plan → State → Event → Answer
@@ -73,7 +76,7 @@ Reads read = (file : List ℕ) → read file ≡ parse file
 
 -- Demand 2 of the verdict on a plan: accepted exactly when the twelve sentences hold, else the lowest broken rule with its lowest row.
 pub record Judges (verdict : Plan → Verdict) : Type 0 where
-  pub accepted : (p : Plan) → Readable p → Exactly (verdict p ≡ Accepted) (Sound p)
+  pub accepted : (p : Plan) → Readable p → (verdict p ≡ Accepted) ↔ Sound p
   pub broken : (p : Plan) → Readable p → verdict p ≢ Accepted → Breaks p (ruleNumber (verdict p)) (ruleRow (verdict p))
 
 -- A run: the answers to a list of events, the first one first, and the state reached.
@@ -117,17 +120,17 @@ pub record SinceGrant (p : Plan) (r x : ℕ) (answers : List Answer) : Type 0 wh
   pub splits : answers ≡ earlier ++ (Done (Granted r) ∷ later)
   pub latest : All (λ answer. answer ≢ Done (Granted r)) later
   pub uncancelled : All (λ answer. answer ≢ Done (Cancelled r)) later
-  pub unreleased : All (λ answer. (v : ℕ) → arrivesOn answer ≡ At v → Releases p v x r → ⊥) later
+  pub unreleased : All (λ answer. (v : ℕ) → arrivesOn answer ≡ At v → Releases p r v x → ⊥) later
 
 -- Demand 3, of the answers so far and the state.
 pub record Safe (p : Plan) (answers : List Answer) (σ : State) : Type 0 where
   -- for each track, what came is what went and what is shown: no train or one, and one exactly if the state has a train there
   pub counted : (u : ℕ) → total (comes u) answers ≡ total (goes u) answers + shown σ u
   pub shownMost : (u : ℕ) → shown σ u ≤ 1
-  pub shownTrain : (u : ℕ) → Exactly (shown σ u ≡ 1) (HasTrain σ u)
+  pub shownTrain : (u : ℕ) → (shown σ u ≡ 1) ↔ HasTrain σ u
   -- each point is held by at most one route, and exactly as the answers say
   pub single : (q r x : ℕ) → Holds σ q x → Holds σ r x → q ≡ r
-  pub held : (r x : ℕ) → Exactly (Holds σ r x) (Listed p r x × SinceGrant p r x answers)
+  pub held : (r x : ℕ) → Holds σ r x ↔ (Listed p r x × SinceGrant p r x answers)
   -- no 40, 41 or 42 was answered (an Accident is one of these), and no 10 (IllFormed): events/specs/Answers.antt has the numbers
   pub unharmed : All (λ answer. (harm : Harm) → answer ≢ Accident harm) answers
   pub formed : All (λ answer. answer ≢ Refused IllFormed) answers

@@ -5,8 +5,8 @@ use mathlib.Core.List.{List, [], _∷_}
 use Prim.Native.Nat.{ℕ}
 use Rattle.plan.specs.Records.{Plan}
 use Rattle.plan.specs.File.{Readable}
-use Rattle.scan.specs.declared.Form.{Form}
-use Rattle.scan.specs.Reading.{Got, form, formNumber, formOffset}
+use Rattle.reading.specs.declared.Form.{Form}
+use Rattle.reading.specs.Reading.{Got, form, formNumber, formOffset}
 use Rattle.rules.specs.declared.Verdict.{Verdict}
 use Rattle.rules.specs.Verdict.{ruleNumber, ruleRow}
 use Rattle.state.specs.declared.State.{State}

@@ -4,7 +4,7 @@ use mathlib.Core.Path.{_≡_}
 use mathlib.Core.List.{List}
 use Prim.Native.Nat.{ℕ}
 use Rattle.plan.specs.Records.{Plan}
-use Rattle.scan.specs.Reading.{got, parse}
+use Rattle.reading.specs.Reading.{got, parse}
 use Rattle.rules.specs.declared.Verdict.the-variants.{Accepted}
 use Rattle.rules.specs.Verdict.{verdict}
 use Rattle.state.specs.State.{fresh}

@@ -6,7 +6,7 @@ use mathlib.Core.List.{List, [], _∷_, _++_}
 use lib.ListN.{take, set}
 use Rattle.laws.specs.Lists.{joined}
 use Rattle.plan.specs.Records.{Plan}
-use Rattle.scan.specs.Reading.{Got, form, got, parse}
+use Rattle.reading.specs.Reading.{Got, form, got, parse}
 use Rattle.rules.specs.Verdict.{verdict}
 use Rattle.state.specs.State.{fresh}
 use Rattle.events.specs.Events.{eventsOf}

@@ -1,22 +1,20 @@
 -- What events ask of a plan, of any plan that can be read: everything that a route, an entry or a track names is there.
 use mathlib.Core.Path.{_≡_, refl}
-use mathlib.Core.Bool.{Bool, true, false, cond, _&&_}
-use mathlib.Core.Logic.{_≢_, inl, inr}
+use mathlib.Core.Bool.{Bool}
+use mathlib.Core.Logic.{inl, inr}
 use mathlib.Core.List.{List, [], _∷_}
-use Prim.Native.Nat.{ℕ, zero, suc, _+_, _-_, _<_, _≤_}
+use Prim.Native.Nat.{ℕ, zero, suc, _+_, _<_, _≤_, _-_}
 use native.Mathlib.Omega.{arith}
 use lib.ListN.{length, getD}
-use lib.Dec.{eqb}
-use borrow.Author.Tests.{eqb-true, eq-eqb, ne-eqb, lt-ltb}
-use Rattle.laws.specs.Tests.{Is, clash, below?, and-l}
+use Rattle.laws.specs.Tests.{Is, below?}
 use Rattle.laws.specs.Lists.{All, all-at, In}
-use Rattle.plan.specs.declared.Track.{Track}
 use Rattle.plan.specs.Limits.{mostTracks, mostSignals, mostRoutes}
-use Rattle.plan.specs.Records.{Plan, noTrack, noRoute, noEntry, facing, exit, isPoint, trackOf, homeOf, routeOf, entryOf}
-use Rattle.plan.specs.Layout.{isExit, forks, out}
-use Rattle.plan.specs.Records.{uses, limitOf}
+use Rattle.plan.specs.Kinds.{out, Exit, noTrack, isPoint}
+use Rattle.plan.specs.Records.{Plan, noRoute, noEntry, trackOf, homeOf, routeOf, entryOf}
+use Rattle.plan.specs.Layout.{StandsAt}
+use Rattle.plan.specs.Routes.{Listed}
 use Rattle.plan.specs.File.{Rises, ReadableTrack, ReadableRoute, ReadableEntry, Readable}
-use Rattle.events.specs.Meaning.{Listed, StandsAt}
+use Rattle.plan.proofs.Says.{out-names, point-below}
 
 -- past the end of a list stands what stands for nothing
 pub getD-none : {A : Type 0} (l : List A) (i : ℕ) (d : A) → length l ≤ i → getD l i d ≡ d
@@ -40,14 +38,6 @@ rises-far l h (suc d) i k =
 
 rises-lt : (l : List ℕ) → Rises l → (i j : ℕ) → i < j → j < length l → getD l i 0 < getD l j 0
 rises-lt l h i j k b = let e : i + suc (j - (i + 1)) ≡ j = omega arith in rw (← e) (rises-far l h (j - (i + 1)) i (omega arith))
-
--- a point is a track of the plan
-pub point-below : (tracks : List Track) (q : ℕ) → Is (isPoint tracks q) → q < length tracks
-unfolding isPoint
-point-below tracks q e = elim (below? q (length tracks)) [
-  | inl h ↦ h
-  | inr h ↦ clash {b = false} (rw (getD-none tracks q noTrack h) at e) refl
-]
 
 module _ (p : Plan) (R : Readable p) where
   pub few-tracks : length (p .tracks) ≤ mostTracks
@@ -109,19 +99,5 @@ module _ (p : Plan) (R : Readable p) where
   ]
 
   -- what a track leads to is a track
-  pub out-below : (u : ℕ) (lie : Bool) → u < length (p .tracks) → (Is (isExit p u) → ⊥) → out p u lie < length (p .tracks)
-  unfolding out forks isExit limitOf uses
-  out-below u lie h x = way (eqb (trackOf p u .kind) facing && lie) refl
-    where
-      used : trackOf p u .first < length (p .tracks)
-      used =
-          let k : trackOf p u .kind ≢ exit = λ e. x (eq-eqb (trackOf p u .kind) exit e) in
-          let t = track-read u h .first in
-          rw (ne-eqb (trackOf p u .kind) exit k, lt-ltb 0 (trackOf p u .kind + 1) (omega arith)) at t
-
-      way : (b : Bool) → (eqb (trackOf p u .kind) facing && lie) ≡ b → cond b (trackOf p u .second) (trackOf p u .first) < length (p .tracks)
-      way true e =
-          let k = eqb-true (trackOf p u .kind) facing (and-l (eqb (trackOf p u .kind) facing) lie e) in
-          let t = track-read u h .second in
-          rw k at t
-      way false e = used
+  pub out-below : (u : ℕ) (lie : Bool) → u < length (p .tracks) → (Exit (trackOf p u) → ⊥) → out (trackOf p u) lie < length (p .tracks)
+  out-below u lie h x = out-names (trackOf p u) (length (p .tracks)) lie (track-read u h) x

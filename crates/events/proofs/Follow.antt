@@ -5,9 +5,11 @@ use Prim.Native.Nat.{ℕ, zero, suc}
 use native.Mathlib.Omega.{arith}
 use Rattle.laws.specs.Tests.{same?}
 use Rattle.plan.specs.Records.{Plan, routeOf}
+use Rattle.plan.specs.Layout.{StandsAt}
+use Rattle.plan.specs.Routes.{Listed, Releases}
 use Rattle.state.specs.declared.State.{State}
 use Rattle.state.specs.State.{noTrain, red, greenFor, trainAt, shownAt, HasTrain, Holds}
-use Rattle.events.specs.Meaning.{Listed, StandsAt, Releases, AfterGrant, AfterCancel, AfterMove, AfterLeaving}
+use Rattle.events.specs.Meaning.{AfterGrant, AfterCancel, AfterMove, AfterLeaving}
 use Rattle.events.proofs.Cases.{standsAt?, listed?, releases?}
 
 -- a signal that is green is not red
@@ -62,8 +64,8 @@ module _ {p : Plan} {σ τ : State} {train u v : ℕ} (m : AfterMove p σ τ tra
   pub move-empty : (x : ℕ) → x ≢ v → trainAt σ x ≡ noTrain → trainAt τ x ≡ noTrain
   move-empty x d z = elim (same? x u) [ inl e ↦ ap (trainAt τ) e ∙ m .behind | inr e ↦ m .otherTrains x e d ∙ z ]
 
-  pub move-holds : (k x : ℕ) → Holds τ k x → (Releases p v x k → ⊥) × Holds σ k x
-  move-holds k x h = elim (releases? p v x k) [
+  pub move-holds : (k x : ℕ) → Holds τ k x → (Releases p k v x → ⊥) × Holds σ k x
+  move-holds k x h = elim (releases? p k v x) [
     | inl e ↦ absurd (m .holds k x e h)
     | inr e ↦ (e, sym (m .otherHolds k x e) ∙ h)
   ]

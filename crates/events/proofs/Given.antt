@@ -10,8 +10,9 @@ use borrow.Author.Tests.{eqb-false, ne-eqb, lt-ltb, ltb-true}
 use Rattle.laws.specs.Tests.{Is, and-l, and-r, and-i, not-t, not-i}
 use Rattle.laws.specs.Search.{lowest}
 use Rattle.laws.specs.Rows.{Finds, Decides, last-row, asks-row, needs-row, needs-not-row, names-row, the-row, found-row, gives-one}
-use Rattle.plan.specs.Records.{Plan, homeOf, routeOf, entryOf}
+use Rattle.plan.specs.Records.{Plan, homeOf, routeOf, entryOf, trackOf}
 use Rattle.plan.specs.File.{Readable}
+use Rattle.plan.proofs.Says.{exit-is}
 use Rattle.state.specs.declared.State.{State}
 use Rattle.state.specs.State.{noTrain, WellFormed}
 use Rattle.state.proofs.Formed.{formed, passes}
@@ -95,7 +96,7 @@ module _ (p : Plan) (R : Readable p) (σ : State) where
         found-row (the-front train numbered) (one-front train numbered) (λ n. tt) λ u at.
         names-row (the-red u) (λ s l. tt) λ notRed.
         let front : Front p σ train u = record { formed = W; numbered = numbered; at = at; notRed = notRed } in
-        asks-row (λ x. x, λ x. x) (λ x. front) λ onward.
+        asks-row (exit-is (trackOf p u)) (λ x. front) λ onward.
         let v : ℕ = wayOut p (σ .lies) u in
         the-row v (next-way p σ W u) (λ m s. sym (way-next p σ u m s))
         (let step : Step p σ train u v = record { front = front; onward = onward; next = next-way p σ W u } in

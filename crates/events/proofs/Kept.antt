@@ -10,9 +10,11 @@ use Rattle.laws.specs.Tests.{Is, clash, same?, below?}
 use Rattle.laws.specs.Lists.{In}
 use Rattle.laws.specs.Sets.{member-empty}
 use Rattle.plan.specs.Limits.{mostTracks, mostSignals}
-use Rattle.plan.specs.Records.{Plan, isPoint, routeOf}
+use Rattle.plan.specs.Kinds.{isPoint, Exit}
+use Rattle.plan.specs.Records.{Plan, routeOf, trackOf}
+use Rattle.plan.specs.Routes.{Listed}
 use Rattle.plan.specs.File.{Readable}
-use Rattle.plan.specs.Layout.{isExit}
+use Rattle.plan.proofs.Says.{point-below}
 use Rattle.state.specs.declared.State.{State}
 use Rattle.state.specs.State.{noTrain, normalLie, reverseLie, red, greenFor, trainAt, lieAt, heldBy, shownAt, HasTrain, Holds, WellFormed, fresh}
 use Rattle.events.specs.declared.Event.{Event}
@@ -22,8 +24,8 @@ use Rattle.events.specs.declared.Answer.{Answer}
 use Rattle.events.specs.declared.Answer.the-variants.{Refused, Accident, Done}
 use Rattle.events.specs.Decide.{answer}
 use Rattle.events.specs.After.{afterDeed, after, nextState}
-use Rattle.events.specs.Meaning.{Listed, Next, AfterGrant, SameLies, FollowsDeed, Follows}
-use Rattle.events.proofs.Facts.{point-below, start-below, listed-point, entry-below, out-below}
+use Rattle.events.specs.Meaning.{Next, AfterGrant, SameLies, FollowsDeed, Follows}
+use Rattle.events.proofs.Facts.{start-below, listed-point, entry-below, out-below}
 use Rattle.events.proofs.Told.{Front, Entering, Moving, Doing, Told}
 use Rattle.events.proofs.Given.{given, told}
 use Rattle.events.proofs.Cases.{in?, listed?}
@@ -36,7 +38,7 @@ pub train-below : (p : Plan) (σ : State) → WellFormed p σ → (u : ℕ) → 
 train-below p σ w u t = elim (below? u (length (p .tracks))) [ inl h ↦ h | inr h ↦ absurd (t (w .trainsEnd u h)) ]
 
 module _ (p : Plan) (reads : Readable p) (σ : State) where
-  next-below : (u v : ℕ) → u < length (p .tracks) → (Is (isExit p u) → ⊥) → Next p σ u v → v < length (p .tracks)
+  next-below : (u v : ℕ) → u < length (p .tracks) → (Exit (trackOf p u) → ⊥) → Next p σ u v → v < length (p .tracks)
   next-below u v h x (inl w) = rw (← w .1) (out-below p reads u false h x)
   next-below u v h x (inr w) = rw (← w .1) (out-below p reads u true h x)
 

@@ -10,25 +10,23 @@ use lib.Dec.{eqb}
 use borrow.Author.Tests.{eqb-true, eqb-false, eq-eqb, ne-eqb}
 use Rattle.laws.specs.declared.Found.{Found}
 use Rattle.laws.specs.declared.Found.the-variants.{At, Nothing}
-use Rattle.laws.specs.Tests.{Is, split, never, clash, below?, and-l, and-r, and-i, or-e, or-l, or-r, not-t, not-i, cond-t, cond-f}
+use Rattle.laws.specs.Tests.{Is, split, never, clash, below?, and-l, and-r, and-i, not-t, not-i, cond-t, cond-f, fails}
 use Rattle.laws.specs.Lists.{In, has, has-in, in-has}
 use Rattle.laws.specs.Answers.{None, LowestSuch}
 use Rattle.laws.specs.Search.{lowest, lowest-at, lowest-none, at-lowest}
-use Rattle.plan.specs.Records.{Plan, homeOf, routeOf}
-use Rattle.plan.specs.Layout.{legged, out, leg, signalAt}
+use Rattle.plan.specs.Kinds.{legged, out, leg}
+use Rattle.plan.specs.Records.{Plan, homeOf, routeOf, trackOf}
+use Rattle.plan.specs.Layout.{signalAt, StandsAt}
+use Rattle.plan.specs.Routes.{Listed, listed}
 use Rattle.plan.specs.File.{Readable}
+use Rattle.plan.proofs.Says.{listed-is, legged-is}
 use Rattle.state.specs.declared.State.{State}
 use Rattle.state.specs.Holds.{empty}
 use Rattle.state.specs.State.{noTrain, normalLie, reverseLie, red, greenFor, trainAt, lieAt, heldBy, shownAt, HasTrain, WellFormed}
 use Rattle.state.proofs.Holds.{some-member, member-some}
-use Rattle.events.specs.Decide.{hasTrain, isRed, isGreen, isReverse, busy, listed, heldListed, lieAfter, derails, stands, frontOf, inPlan, isFound, ifRed, redAt, wayOut, runsThrough}
-use Rattle.events.specs.Meaning.{Listed, StandsAt, Busy, HeldListed, OtherLie, Derails, FrontAt, InPlan, RedAt, Next, RunsThrough}
+use Rattle.events.specs.Decide.{hasTrain, isRed, isGreen, isReverse, busy, heldListed, lieAfter, derails, stands, frontOf, inPlan, isFound, ifRed, redAt, wayOut, runsThrough}
+use Rattle.events.specs.Meaning.{Busy, HeldListed, OtherLie, Derails, FrontAt, InPlan, RedAt, Next, RunsThrough}
 use Rattle.events.proofs.Facts.{one-signal}
-
--- what is not so fails the test
-pub fails : (b : Bool) {A : Type 0} → (Is b → A) → (A → ⊥) → b ≡ false
-fails true h k = absurd (k (h refl))
-fails false h k = refl
 
 -- A search over a test that tells what is so finds the lowest that is so.
 pub record Tells (n : ℕ) (f : ℕ → Bool) (Such : ℕ → Type 0) : Type 0 where
@@ -47,7 +45,7 @@ module _ {n : ℕ} {f : ℕ → Bool} {Such : ℕ → Type 0} (t : Tells n f Suc
   at-search {x} l = at-lowest n f (record {
     below = t .inside x (l .such);
     passes = t .hears x (l .such);
-    first = λ y h. fails (f y) (t .says y) (l .noLower y h);
+    first = λ y h. fails (f y) (λ e. l .noLower y h (t .says y e));
   })
 
 -- Cells.
@@ -72,16 +70,6 @@ module _ (σ : State) where
   unfolding isReverse lieAt
   reverse-false q e = ne-eqb (getD (σ .lies) q 0) 1 (λ z. omega arith)
 
--- Lists.
-pub listed-says : (normal reverse : List ℕ) (q : ℕ) → Is (listed normal reverse q) → In q normal ⊎ In q reverse
-unfolding listed
-listed-says normal reverse q e = elim (or-e (has q normal) (has q reverse) e) [ inl m ↦ inl (has-in q normal m) | inr m ↦ inr (has-in q reverse m) ]
-
-pub listed-hears : (normal reverse : List ℕ) (q : ℕ) → In q normal ⊎ In q reverse → Is (listed normal reverse q)
-unfolding listed
-listed-hears normal reverse q (inl m) = or-l (has q normal) (has q reverse) (in-has q normal m)
-listed-hears normal reverse q (inr m) = or-r (has q normal) (has q reverse) (in-has q reverse m)
-
 module _ (p : Plan) (σ : State) where
   pub busy-tells : (clear : List ℕ) (n : ℕ) → ((u : ℕ) → In u clear → u < n) → Tells n (busy clear (σ .trains)) (Busy p σ clear)
   unfolding busy
@@ -96,10 +84,10 @@ module _ (p : Plan) (σ : State) where
     unfolding heldListed empty heldBy
     held-tells = record {
       says = λ q e. (
-        listed-says (routeOf p r .normal) (routeOf p r .reverse) q (and-r (not (eqb (getD (σ .holds) q 0) 0)) (listed (routeOf p r .normal) (routeOf p r .reverse) q) e),
+        listed-is p r q .0 (and-r (not (eqb (getD (σ .holds) q 0) 0)) (listed (routeOf p r .normal) (routeOf p r .reverse) q) e),
         some-member (getD (σ .holds) q 0) (eqb-false _ 0 (not-t _ (and-l (not (eqb (getD (σ .holds) q 0) 0)) (listed (routeOf p r .normal) (routeOf p r .reverse) q) e))),
       );
-      hears = λ q s. and-i _ _ (not-i _ (ne-eqb _ 0 (member-some _ (s .1 .0) (s .1 .1)))) (listed-hears (routeOf p r .normal) (routeOf p r .reverse) q (s .0));
+      hears = λ q s. and-i _ _ (not-i _ (ne-eqb _ 0 (member-some _ (s .1 .0) (s .1 .1)))) (listed-is p r q .1 (s .0));
       inside = λ q s. h q (s .0);
     }
 
@@ -116,7 +104,7 @@ module _ (p : Plan) (σ : State) where
     unfolding lieAfter lieAt
     other-hears q (inl s) z = s .1 (sym z ∙ cond-t _ _ (in-has q (routeOf p r .reverse) (s .0)))
     other-hears q (inr s) z =
-        s .2 (sym z ∙ cond-f _ _ (fails (has q (routeOf p r .reverse)) (has-in q (routeOf p r .reverse)) (s .0)) ∙ cond-t _ _ (in-has q (routeOf p r .normal) (s .1)))
+        s .2 (sym z ∙ cond-f _ _ (fails (has q (routeOf p r .reverse)) (λ e. s .0 (has-in q (routeOf p r .reverse) e))) ∙ cond-t _ _ (in-has q (routeOf p r .normal) (s .1)))
 
     other-listed : (q : ℕ) → OtherLie p σ r q → Listed p r q
     other-listed q (inl s) = inr (s .0)
@@ -207,33 +195,33 @@ module _ (p : Plan) (σ : State) where
   pub next-way : WellFormed p σ → (u : ℕ) → Next p σ u (wayOut p (σ .lies) u)
   unfolding wayOut
   next-way W u = elim (W .lie u) [
-    | inl z ↦ inl (z, ap (out p u) (sym (reverse-false σ u z)))
-    | inr z ↦ inr (z, ap (out p u) (sym (reverse-true σ u z)))
+    | inl z ↦ inl (z, ap (out (trackOf p u)) (sym (reverse-false σ u z)))
+    | inr z ↦ inr (z, ap (out (trackOf p u)) (sym (reverse-true σ u z)))
   ]
 
   pub way-next : (u v : ℕ) → Next p σ u v → wayOut p (σ .lies) u ≡ v
   unfolding wayOut
-  way-next u v (inl w) = ap (out p u) (reverse-false σ u (w .0)) ∙ w .1
-  way-next u v (inr w) = ap (out p u) (reverse-true σ u (w .0)) ∙ w .1
+  way-next u v (inl w) = ap (out (trackOf p u)) (reverse-false σ u (w .0)) ∙ w .1
+  way-next u v (inr w) = ap (out (trackOf p u)) (reverse-true σ u (w .0)) ∙ w .1
 
   through-says : WellFormed p σ → (u v : ℕ) → Is (runsThrough p (σ .lies) u v) → RunsThrough p σ u v
   unfolding runsThrough
   through-says W u v e =
-      let d = eqb-false _ _ (not-t _ (and-r (legged p v) (not (eqb (leg p v (isReverse (σ .lies) v)) u)) e)) in (
-        and-l (legged p v) (not (eqb (leg p v (isReverse (σ .lies) v)) u)) e,
+      let d = eqb-false _ _ (not-t _ (and-r (legged (trackOf p v)) (not (eqb (leg (trackOf p v) (isReverse (σ .lies) v)) u)) e)) in (
+        legged-is (trackOf p v) .0 (and-l (legged (trackOf p v)) (not (eqb (leg (trackOf p v) (isReverse (σ .lies) v)) u)) e),
         elim (W .lie v) [
-          | inl z ↦ inl (z, λ q. d (ap (leg p v) (reverse-false σ v z) ∙ q))
-          | inr z ↦ inr (z, λ q. d (ap (leg p v) (reverse-true σ v z) ∙ q))
+          | inl z ↦ inl (z, λ q. d (ap (leg (trackOf p v)) (reverse-false σ v z) ∙ q))
+          | inr z ↦ inr (z, λ q. d (ap (leg (trackOf p v)) (reverse-true σ v z) ∙ q))
         ],
       )
 
   through-hears : (u v : ℕ) → RunsThrough p σ u v → Is (runsThrough p (σ .lies) u v)
   unfolding runsThrough
-  through-hears u v w = and-i _ _ (w .0) (not-i _ (ne-eqb _ _ (other (w .1))))
+  through-hears u v w = and-i _ _ (legged-is (trackOf p v) .1 (w .0)) (not-i _ (ne-eqb _ _ (other (w .1))))
     where
-      other : ((lieAt σ v ≡ normalLie) × (leg p v false ≢ u)) ⊎ ((lieAt σ v ≡ reverseLie) × (leg p v true ≢ u)) → leg p v (isReverse (σ .lies) v) ≢ u
-      other (inl s) q = s .1 (ap (leg p v) (sym (reverse-false σ v (s .0))) ∙ q)
-      other (inr s) q = s .1 (ap (leg p v) (sym (reverse-true σ v (s .0))) ∙ q)
+      other : ((lieAt σ v ≡ normalLie) × (leg (trackOf p v) false ≢ u)) ⊎ ((lieAt σ v ≡ reverseLie) × (leg (trackOf p v) true ≢ u)) → leg (trackOf p v) (isReverse (σ .lies) v) ≢ u
+      other (inl s) q = s .1 (ap (leg (trackOf p v)) (sym (reverse-false σ v (s .0))) ∙ q)
+      other (inr s) q = s .1 (ap (leg (trackOf p v)) (sym (reverse-true σ v (s .0))) ∙ q)
 
   pub through-tests : WellFormed p σ → (u v : ℕ) → Is (runsThrough p (σ .lies) u v) ↔ RunsThrough p σ u v
   through-tests W u v = (through-says W u v, through-hears u v)

@@ -5,10 +5,9 @@ use mathlib.Core.Logic.{_≢_, _⊎_}
 use Prim.Native.Nat.{ℕ, _<_}
 use lib.ListN.{length}
 use lib.Dec.{eqb}
-use Rattle.laws.specs.Tests.{Is}
 use Rattle.laws.specs.Answers.{None}
-use Rattle.plan.specs.Records.{Plan, routeOf, entryOf}
-use Rattle.plan.specs.Layout.{isExit}
+use Rattle.plan.specs.Kinds.{Exit}
+use Rattle.plan.specs.Records.{Plan, routeOf, entryOf, trackOf}
 use Rattle.state.specs.declared.State.{State}
 use Rattle.state.specs.State.{noTrain, HasTrain, WellFormed}
 use Rattle.events.specs.declared.Harm.{Harm}
@@ -52,7 +51,7 @@ module _ (p : Plan) (σ : State) where
   -- and goes on to v
   pub record Step (train u v : ℕ) : Type 0 where
     pub front : Front train u
-    pub onward : Is (isExit p u) → ⊥
+    pub onward : Exit (trackOf p u) → ⊥
     pub next : Next p σ u v
 
   pub record Entering (train u : ℕ) : Type 0 where

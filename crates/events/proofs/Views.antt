@@ -8,13 +8,16 @@ use native.Mathlib.Omega.{arith}
 use lib.ListN.{length, getD}
 use lib.Dec.{eqb}
 use borrow.Author.Tests.{eq-eqb, ne-eqb}
-use Rattle.laws.specs.Tests.{Is, split, clash, below?, same?, cond-t, cond-f}
+use Rattle.laws.specs.Tests.{Is, split, clash, below?, same?, cond-t, cond-f, fails}
 use Rattle.laws.specs.Lists.{has, has-in, in-has}
 use Rattle.laws.specs.Tables.{tab, getD-tab, length-tab}
 use Rattle.laws.specs.Sets.{member, excluding, member-excluding, member-excluding-other, excluding-le}
 use Rattle.plan.specs.Limits.{mostTracks, mostSignals}
 use Rattle.plan.specs.Records.{Plan, routeOf}
+use Rattle.plan.specs.Layout.{StandsAt, standsAt}
+use Rattle.plan.specs.Routes.{Listed, Releases, releases, listed}
 use Rattle.plan.specs.File.{Readable}
+use Rattle.plan.proofs.Says.{stands-is, listed-is, releases-is}
 use Rattle.state.specs.declared.State.{State}
 use Rattle.state.specs.Holds.{adding}
 use Rattle.state.specs.State.{noTrain, red, greenFor, trainAt, lieAt, heldBy, shownAt, WellFormed}
@@ -24,12 +27,11 @@ use Rattle.events.specs.declared.Refusal.{Refusal}
 use Rattle.events.specs.declared.Deed.the-variants.{Granted, Cancelled, Entered, Moved, Left}
 use Rattle.events.specs.declared.Answer.the-variants.{Refused}
 use Rattle.events.specs.Answers.{deedArrives, deedLeaves}
-use Rattle.events.specs.Decide.{listed, lieAfter}
-use Rattle.events.specs.After.{stood, gone, newTrains, newLies, taken, dropped, releases, droppedAll, arrived, routeHolds, givenBack, newHolds, shown, standsAt, reddened, routeSignals, redBehind, newSignals, afterDeed, after}
-use Rattle.events.specs.Meaning.{Listed, StandsAt, Releases, AfterGrant, AfterCancel, AfterEntry, AfterMove, AfterLeaving}
+use Rattle.events.specs.Decide.{lieAfter}
+use Rattle.events.specs.After.{stood, gone, newTrains, newLies, taken, dropped, droppedAll, arrived, routeHolds, givenBack, newHolds, shown, reddened, routeSignals, redBehind, newSignals, afterDeed, after}
+use Rattle.events.specs.Meaning.{AfterGrant, AfterCancel, AfterEntry, AfterMove, AfterLeaving}
 use Rattle.events.proofs.Facts.{few-tracks, few-signals, few-routes, start-below, listed-below}
-use Rattle.events.proofs.Reflect.{fails, listed-says, listed-hears}
-use Rattle.events.proofs.Cases.{releases-says, releases-hears, releases-below, stands-says, stands-hears}
+use Rattle.events.proofs.Cases.{releases-below}
 
 -- A table shows its function everywhere, if that is nothing past the table's end.
 cell : (n : ℕ) (g : ℕ → ℕ) (i : ℕ) → (n ≤ i → g i ≡ 0) → getD (tab n g) i 0 ≡ g i
@@ -78,14 +80,14 @@ module _ (p : Plan) (R : Readable p) (σ : State) (W : WellFormed p σ) where
   -- beyond the plan nothing is held
   none-held : (q : ℕ) → length (p .tracks) ≤ q → getD (σ .holds) q 0 ≡ 0
   unfolding heldBy
-  none-held q h = only-empty (getD (σ .holds) q 0) (λ k. fails (member (getD (σ .holds) q 0) k) (λ m. m) (W .holdsEnd k q h))
+  none-held q h = only-empty (getD (σ .holds) q 0) (λ k. fails (member (getD (σ .holds) q 0) k) (W .holdsEnd k q h))
 
   -- A request granted.
   module _ (r : ℕ) (k : r < length (p .routes)) where
     unlisted : (q : ℕ) → (Listed p r q → ⊥) → (has q (routeOf p r .reverse) ≡ false) × (has q (routeOf p r .normal) ≡ false)
     unlisted q n = (
-      fails (has q (routeOf p r .reverse)) (has-in q (routeOf p r .reverse)) (λ m. n (inr m)),
-      fails (has q (routeOf p r .normal)) (has-in q (routeOf p r .normal)) (λ m. n (inl m)),
+      fails (has q (routeOf p r .reverse)) (λ e. n (inr (has-in q (routeOf p r .reverse) e))),
+      fails (has q (routeOf p r .normal)) (λ e. n (inl (has-in q (routeOf p r .normal) e))),
     )
 
     far : (q : ℕ) → mostTracks ≤ q → Listed p r q → ⊥
@@ -103,17 +105,17 @@ module _ (p : Plan) (R : Readable p) (σ : State) (W : WellFormed p σ) where
     grant-holds : (q : ℕ) → getD (afterDeed p σ (Granted r) .holds) q 0 ≡ taken r (routeOf p r .normal) (routeOf p r .reverse) (σ .holds) q
     unfolding afterDeed newHolds givenBack deedArrives routeHolds taken
     grant-holds q = cell mostTracks (taken r (routeOf p r .normal) (routeOf p r .reverse) (σ .holds)) q
-        (λ h. cond-f _ _ (fails (listed (routeOf p r .normal) (routeOf p r .reverse) q) (listed-says (routeOf p r .normal) (routeOf p r .reverse) q) (far q h))
+        (λ h. cond-f _ _ (fails (listed (routeOf p r .normal) (routeOf p r .reverse) q) (λ e. far q h (listed-is p r q .0 e)))
         ∙ none-held q (let b = few-tracks p R in omega arith))
 
     grant-taken : (q : ℕ) → Listed p r q → getD (afterDeed p σ (Granted r) .holds) q 0 ≡ adding (getD (σ .holds) q 0) r
     unfolding taken
-    grant-taken q m = grant-holds q ∙ cond-t _ _ (listed-hears (routeOf p r .normal) (routeOf p r .reverse) q m)
+    grant-taken q m = grant-holds q ∙ cond-t _ _ (listed-is p r q .1 m)
 
     grant-same : (q : ℕ) → (Listed p r q → ⊥) → getD (afterDeed p σ (Granted r) .holds) q 0 ≡ getD (σ .holds) q 0
     unfolding taken
     grant-same q n =
-        grant-holds q ∙ cond-f _ _ (fails (listed (routeOf p r .normal) (routeOf p r .reverse) q) (listed-says (routeOf p r .normal) (routeOf p r .reverse) q) n)
+        grant-holds q ∙ cond-f _ _ (fails (listed (routeOf p r .normal) (routeOf p r .reverse) q) (λ e. n (listed-is p r q .0 e)))
 
     start-few : routeOf p r .start < mostSignals
     start-few = let a = start-below p R r k in let b = few-signals p R in omega arith
@@ -138,7 +140,7 @@ module _ (p : Plan) (R : Readable p) (σ : State) (W : WellFormed p σ) where
     after-grant = record {
       trains = λ u. refl;
       reverse = λ q m. grant-lie q ∙ cond-t _ _ (in-has q (routeOf p r .reverse) m);
-      normal = λ q m n. grant-lie q ∙ cond-f _ _ (fails (has q (routeOf p r .reverse)) (has-in q (routeOf p r .reverse)) n) ∙ cond-t _ _ (in-has q (routeOf p r .normal) m);
+      normal = λ q m n. grant-lie q ∙ cond-f _ _ (fails (has q (routeOf p r .reverse)) (λ e. n (has-in q (routeOf p r .reverse) e))) ∙ cond-t _ _ (in-has q (routeOf p r .normal) m);
       otherLies = λ q n. grant-lie q ∙ lie-kept q n;
       holds = λ q m. ap (λ (set : ℕ). member set r) (grant-taken q m) ∙ member-adding (getD (σ .holds) q 0) r (let b = few-routes p R in omega arith);
       otherHolds = λ j q w. other j q w (split (listed (routeOf p r .normal) (routeOf p r .reverse) q));
@@ -149,9 +151,9 @@ module _ (p : Plan) (R : Readable p) (σ : State) (W : WellFormed p σ) where
         other : (j q : ℕ) → (j ≢ r) ⊎ (Listed p r q → ⊥) → (listed (routeOf p r .normal) (routeOf p r .reverse) q ≡ true) ⊎ (listed (routeOf p r .normal) (routeOf p r .reverse) q ≡ false)
             → member (getD (afterDeed p σ (Granted r) .holds) q 0) j ≡ member (getD (σ .holds) q 0) j
         other j q (inl d) (inl m) =
-            ap (λ (set : ℕ). member set j) (grant-taken q (listed-says (routeOf p r .normal) (routeOf p r .reverse) q m)) ∙ member-adding-other (getD (σ .holds) q 0) r j d
+            ap (λ (set : ℕ). member set j) (grant-taken q (listed-is p r q .0 m)) ∙ member-adding-other (getD (σ .holds) q 0) r j d
         other j q (inl d) (inr m) =
-            ap (λ (set : ℕ). member set j) (grant-same q (λ l. clash (listed-hears (routeOf p r .normal) (routeOf p r .reverse) q l) m))
+            ap (λ (set : ℕ). member set j) (grant-same q (λ l. clash (listed-is p r q .1 l) m))
         other j q (inr n) m = ap (λ (set : ℕ). member set j) (grant-same q n)
 
     -- Cancelled.
@@ -219,11 +221,11 @@ module _ (p : Plan) (R : Readable p) (σ : State) (W : WellFormed p σ) where
 
     red-here : (s : ℕ) → StandsAt p u s → getD (tab mostSignals (reddened p u (σ .signals))) s 0 ≡ red
     unfolding reddened
-    red-here s w = red-cell s ∙ cond-t _ _ (stands-hears p u s w)
+    red-here s w = red-cell s ∙ cond-t _ _ (stands-is p u s .1 w)
 
     red-other : (s : ℕ) → (StandsAt p u s → ⊥) → getD (tab mostSignals (reddened p u (σ .signals))) s 0 ≡ shownAt σ s
     unfolding reddened shownAt
-    red-other s n = red-cell s ∙ cond-f _ _ (fails (standsAt p u s) (stands-says p u s) n)
+    red-other s n = red-cell s ∙ cond-f _ _ (fails (standsAt p u s) (λ e. n (stands-is p u s .0 e)))
 
   -- Entered.
   pub after-entry : (train u : ℕ) → u < length (p .tracks) → AfterEntry σ (afterDeed p σ (Entered train u)) train u
@@ -242,19 +244,19 @@ module _ (p : Plan) (R : Readable p) (σ : State) (W : WellFormed p σ) where
     unfolding arrived
     move-holds q = cell mostTracks (arrived p v (σ .holds)) q
         (λ f. let z = none-held q (let b = few-tracks p R in omega arith) in
-        let e = droppedAll-le (length (p .routes)) (releases p v q) (getD (σ .holds) q 0) in omega arith)
+        let e = droppedAll-le (length (p .routes)) (λ r. releases p r v q) (getD (σ .holds) q 0) in omega arith)
 
-    released : (k q : ℕ) → Releases p v q k → member (getD (tab mostTracks (arrived p v (σ .holds))) q 0) k ≡ false
+    released : (k q : ℕ) → Releases p k v q → member (getD (tab mostTracks (arrived p v (σ .holds))) q 0) k ≡ false
     unfolding arrived
     released k q w =
         ap (λ (set : ℕ). member set k) (move-holds q)
-        ∙ member-dropped (length (p .routes)) (releases p v q) (getD (σ .holds) q 0) k (releases-below p v q k w) (releases-hears p v q k w)
+        ∙ member-dropped (length (p .routes)) (λ r. releases p r v q) (getD (σ .holds) q 0) k (releases-below p k v q w) (releases-is p k v q .1 w)
 
-    kept : (k q : ℕ) → (Releases p v q k → ⊥) → member (getD (tab mostTracks (arrived p v (σ .holds))) q 0) k ≡ member (getD (σ .holds) q 0) k
+    kept : (k q : ℕ) → (Releases p k v q → ⊥) → member (getD (tab mostTracks (arrived p v (σ .holds))) q 0) k ≡ member (getD (σ .holds) q 0) k
     unfolding arrived
     kept k q n =
         ap (λ (set : ℕ). member set k) (move-holds q)
-        ∙ member-kept (length (p .routes)) (releases p v q) (getD (σ .holds) q 0) k (λ h. fails (releases p v q k) (releases-says p v q k) n)
+        ∙ member-kept (length (p .routes)) (λ r. releases p r v q) (getD (σ .holds) q 0) k (λ h. fails (releases p k v q) (λ e. n (releases-is p k v q .0 e)))
 
   pub after-move : (train u v : ℕ) → v < length (p .tracks) → u ≢ v → AfterMove p σ (afterDeed p σ (Moved train u v)) train u v
   unfolding afterDeed newTrains newLies newHolds givenBack deedArrives routeHolds newSignals redBehind deedLeaves routeSignals trainAt lieAt heldBy shownAt

@@ -1,16 +1,17 @@
 -- The state after an answer: a deed goes array by array, each a function of that array, the plan and the deed alone; nothing else changes anything.
-use mathlib.Core.Bool.{Bool, cond, _&&_}
+use mathlib.Core.Bool.{Bool, cond}
 use mathlib.Core.List.{List}
 use Prim.Native.Nat.{ℕ, zero, suc, _<_}
 use lib.ListN.{length, getD}
-use lib.Dec.{eqb, ltb}
+use lib.Dec.{eqb}
 use Rattle.laws.specs.declared.Found.{Found}
 use Rattle.laws.specs.declared.Found.the-variants.{At, Nothing}
-use Rattle.laws.specs.Lists.{anyOf}
 use Rattle.laws.specs.Tables.{tab}
 use Rattle.laws.specs.Sets.{excluding}
 use Rattle.plan.specs.Limits.{mostTracks, mostSignals}
-use Rattle.plan.specs.Records.{Plan, homeOf, routeOf}
+use Rattle.plan.specs.Records.{Plan, routeOf}
+use Rattle.plan.specs.Layout.{standsAt}
+use Rattle.plan.specs.Routes.{listed, releases}
 use Rattle.state.specs.declared.State.{State}
 use Rattle.state.specs.Holds.{adding}
 use Rattle.state.specs.State.{stateOf, noTrain, red, greenFor}
@@ -19,7 +20,7 @@ use Rattle.events.specs.declared.Deed.{Deed}
 use Rattle.events.specs.declared.Deed.the-variants.{Granted, Cancelled, Entered, Moved, Left}
 use Rattle.events.specs.declared.Answer.{Answer}
 use Rattle.events.specs.Answers.{ifDone, deedArrives, deedLeaves}
-use Rattle.events.specs.Decide.{listed, lieAfter, answer}
+use Rattle.events.specs.Decide.{lieAfter, answer}
 
 -- A train comes to stand on a track; a train is gone from one. A move is both.
 
@@ -54,16 +55,13 @@ taken r normal reverse holds q = cond (listed normal reverse q) (adding (getD ho
 unfoldable pub dropped : ℕ → List ℕ → ℕ → ℕ
 dropped r holds q = excluding (getD holds q 0) r
 
-unfoldable pub releases : Plan → ℕ → ℕ → ℕ → Bool
-releases p v q r = anyOf (λ release. eqb (release .track) v && eqb (release .point) q) (routeOf p r .releases)
-
 -- of the routes below n those that f names are dropped
 unfoldable pub droppedAll : ℕ → (ℕ → Bool) → ℕ → ℕ
 droppedAll zero f set = set
 droppedAll (suc n) f set = cond (f n) (excluding (droppedAll n f set) n) (droppedAll n f set)
 
 unfoldable pub arrived : Plan → ℕ → List ℕ → ℕ → ℕ
-arrived p v holds q = droppedAll (length (p .routes)) (releases p v q) (getD holds q 0)
+arrived p v holds q = droppedAll (length (p .routes)) (λ r. releases p r v q) (getD holds q 0)
 
 -- by a grant and by a cancel
 unfoldable pub routeHolds : Plan → List ℕ → Deed → List ℕ
@@ -85,9 +83,6 @@ newHolds p holds deed = givenBack p (deedArrives deed) (routeHolds p holds deed)
 
 unfoldable pub shown : ℕ → ℕ → List ℕ → ℕ → ℕ
 shown start colour signals s = cond (eqb s start) colour (getD signals s red)
-
-unfoldable pub standsAt : Plan → ℕ → ℕ → Bool
-standsAt p u s = ltb s (length (p .signals)) && eqb (homeOf p s) u
 
 unfoldable pub reddened : Plan → ℕ → List ℕ → ℕ → ℕ
 reddened p u signals s = cond (standsAt p u s) red (getD signals s red)

@@ -1,5 +1,5 @@
 -- The answer to an event: the tests of document 01, "State and events", in its order. The first that applies is the answer.
-use mathlib.Core.Bool.{Bool, true, false, not, cond, _&&_, _||_}
+use mathlib.Core.Bool.{Bool, true, false, not, cond, _&&_}
 use mathlib.Core.List.{List}
 use Prim.Native.Nat.{ℕ}
 use lib.ListN.{length, getD}
@@ -8,8 +8,10 @@ use Rattle.laws.specs.declared.Found.{Found}
 use Rattle.laws.specs.declared.Found.the-variants.{At, Nothing}
 use Rattle.laws.specs.Lists.{has}
 use Rattle.laws.specs.Search.{lowest, unless}
-use Rattle.plan.specs.Records.{Plan, homeOf, routeOf, entryOf}
-use Rattle.plan.specs.Layout.{isExit, legged, out, leg, signalAt}
+use Rattle.plan.specs.Kinds.{exit, legged, out, leg}
+use Rattle.plan.specs.Records.{Plan, homeOf, routeOf, entryOf, trackOf}
+use Rattle.plan.specs.Layout.{signalAt}
+use Rattle.plan.specs.Routes.{listed}
 use Rattle.state.specs.declared.State.{State}
 use Rattle.state.specs.Holds.{empty}
 use Rattle.state.specs.State.{noTrain, normalLie, reverseLie, red, greenFor, wellFormed}
@@ -38,10 +40,6 @@ isReverse lies q = eqb (getD lies q normalLie) reverseLie
 -- a track of the clear list has a train
 unfoldable pub busy : List ℕ → List ℕ → ℕ → Bool
 busy clear trains u = hasTrain trains u && has u clear
-
--- the listed points are those of the normal and the reverse list
-unfoldable pub listed : List ℕ → List ℕ → ℕ → Bool
-listed normal reverse q = has q normal || has q reverse
 
 -- a listed point is held by any route
 unfoldable pub heldListed : List ℕ → List ℕ → List ℕ → ℕ → Bool
@@ -94,11 +92,11 @@ redAt p signals u = ifRed signals (signalAt p u)
 
 -- the next track, by the lie if on a facing point
 unfoldable pub wayOut : Plan → List ℕ → ℕ → ℕ
-wayOut p lies u = out p u (isReverse lies u)
+wayOut p lies u = out (trackOf p u) (isReverse lies u)
 
 -- the track entered is a trailing point and the track left is not its leg for its present lie
 unfoldable pub runsThrough : Plan → List ℕ → ℕ → ℕ → Bool
-runsThrough p lies u v = legged p v && not (eqb (leg p v (isReverse lies v)) u)
+runsThrough p lies u v = legged (trackOf p v) && not (eqb (leg (trackOf p v) (isReverse lies v)) u)
 
 -- The four events. Each looks at the arrays that it names, and at no other.
 module _ (p : Plan) where
@@ -139,7 +137,7 @@ module _ (p : Plan) where
   unfoldable pub moveFrom : List ℕ → List ℕ → List ℕ → ℕ → ℕ → Answer
   moveFrom trains lies signals train u =
       unless (redAt p signals u) (λ s. Refused (Red s))
-      (cond (isExit p u) (Done (Left train u))
+      (cond (exit (trackOf p u)) (Done (Left train u))
       (moveTo trains lies train u (wayOut p lies u)))
 
   -- 18

@@ -4,13 +4,13 @@ use mathlib.Core.Bool.{true, false}
 use mathlib.Core.Logic.{_≢_, _⊎_}
 use mathlib.Core.List.{List}
 use Prim.Native.Nat.{ℕ, _<_}
-use lib.ListN.{length, getD}
-use Rattle.laws.specs.Tests.{Is}
+use lib.ListN.{length}
 use Rattle.laws.specs.Lists.{In}
 use Rattle.laws.specs.Answers.{Table, last, asks, needs, names, the, Gives}
-use Rattle.plan.specs.declared.Release.{Release}
-use Rattle.plan.specs.Records.{Plan, homeOf, routeOf, entryOf}
-use Rattle.plan.specs.Layout.{isExit, legged, out, leg}
+use Rattle.plan.specs.Kinds.{out, leg, Exit, Legged}
+use Rattle.plan.specs.Records.{Plan, homeOf, routeOf, entryOf, trackOf}
+use Rattle.plan.specs.Layout.{StandsAt}
+use Rattle.plan.specs.Routes.{Listed, Releases}
 use Rattle.state.specs.declared.State.{State}
 use Rattle.state.specs.State.{noTrain, normalLie, reverseLie, red, greenFor, trainAt, lieAt, heldBy, shownAt, HasTrain, Holds, WellFormed}
 use Rattle.events.specs.declared.Event.{Event}
@@ -22,24 +22,7 @@ use Rattle.events.specs.declared.Deed.the-variants.{Granted, Cancelled, 
 use Rattle.events.specs.declared.Answer.{Answer}
 use Rattle.events.specs.declared.Answer.the-variants.{Refused, Accident, Done}
 
--- what stands for a release that doesn't exist
-abbrev pub noRelease : Release
-noRelease = record { track = 0; point = 0 }
-
 -- What the table speaks of.
-module _ (p : Plan) where
-  -- the route's listed points are those of its normal and reverse lists
-  abbrev pub Listed : ℕ → ℕ → Type 0
-  Listed r q = In q (routeOf p r .normal) ⊎ In q (routeOf p r .reverse)
-
-  -- the signal stands at the end of the track
-  abbrev pub StandsAt : ℕ → ℕ → Type 0
-  StandsAt u s = (s < length (p .signals)) × (homeOf p s ≡ u)
-
-  -- (v, q) is in the route's release list
-  abbrev pub Releases : ℕ → ℕ → ℕ → Type 0
-  Releases v q r = (i : ℕ) × (i < length (routeOf p r .releases)) × (getD (routeOf p r .releases) i noRelease .track ≡ v) × (getD (routeOf p r .releases) i noRelease .point ≡ q)
-
 module _ (p : Plan) (σ : State) where
   -- a track of a clear list has a train
   abbrev pub Busy : List ℕ → ℕ → Type 0
@@ -71,12 +54,12 @@ module _ (p : Plan) (σ : State) where
 
   -- the track that the train goes to: the next one, by the lie if on a facing point
   abbrev pub Next : ℕ → ℕ → Type 0
-  Next u v = ((lieAt σ u ≡ normalLie) × (out p u false ≡ v)) ⊎ ((lieAt σ u ≡ reverseLie) × (out p u true ≡ v))
+  Next u v = ((lieAt σ u ≡ normalLie) × (out (trackOf p u) false ≡ v)) ⊎ ((lieAt σ u ≡ reverseLie) × (out (trackOf p u) true ≡ v))
 
   -- the track entered is a trailing point and the track left is not its leg for its present lie
   abbrev pub RunsThrough : ℕ → ℕ → Type 0
   RunsThrough u v =
-      Is (legged p v) × (((lieAt σ v ≡ normalLie) × (leg p v false ≢ u)) ⊎ ((lieAt σ v ≡ reverseLie) × (leg p v true ≢ u)))
+      Legged (trackOf p v) × (((lieAt σ v ≡ normalLie) × (leg (trackOf p v) false ≢ u)) ⊎ ((lieAt σ v ≡ reverseLie) × (leg (trackOf p v) true ≢ u)))
 
   abbrev pub SignalRed : ℕ → Type 0
   SignalRed r = shownAt σ (routeOf p r .start) ≡ red
@@ -123,7 +106,7 @@ module _ (p : Plan) (σ : State) where
       (needs (InPlan train) (Refused TrainOut)
       (the (FrontAt train) λ u.
       names (RedAt u) (λ s. Refused (Red s))
-      (asks (Is (isExit p u)) (Done (Left train u))
+      (asks (Exit (trackOf p u)) (Done (Left train u))
       (the (Next u) λ v.
       asks (HasTrain σ v) (Accident (Collision v))
       (asks (RunsThrough u v) (Accident (RunThrough v))
@@ -194,8 +177,8 @@ pub record AfterMove (p : Plan) (σ τ : State) (train u v : ℕ) : Type 0 where
   pub behind : trainAt τ u ≡ noTrain
   pub otherTrains : (x : ℕ) → x ≢ u → x ≢ v → trainAt τ x ≡ trainAt σ x
   pub lies : SameLies σ τ
-  pub holds : (k q : ℕ) → Releases p v q k → Holds τ k q → ⊥
-  pub otherHolds : (k q : ℕ) → (Releases p v q k → ⊥) → heldBy τ k q ≡ heldBy σ k q
+  pub holds : (k q : ℕ) → Releases p k v q → Holds τ k q → ⊥
+  pub otherHolds : (k q : ℕ) → (Releases p k v q → ⊥) → heldBy τ k q ≡ heldBy σ k q
   pub signal : (s : ℕ) → StandsAt p u s → shownAt τ s ≡ red
   pub otherSignals : (s : ℕ) → (StandsAt p u s → ⊥) → shownAt τ s ≡ shownAt σ s
 

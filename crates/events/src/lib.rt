@@ -1,5 +1,5 @@
 // What an event is and what an answer is. The definitions that decide and that say the state after stand in specs/.
-use plan::image::wide;
+use lists::wide;
 ghost use mathlib.Core.Path.{_≡_};
 ghost use lib.ListN.{drop};
 ghost use Rattle.events.specs.Events.{eventOf, firstEvent};

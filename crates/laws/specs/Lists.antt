@@ -1,7 +1,7 @@
 -- What holds of the elements of a list: as a sentence and as a test, with one law for each that turns the test into the sentence.
-use mathlib.Core.Path.{_≡_, refl, sym, ap, _∙_}
-use mathlib.Core.Bool.{Bool, true, false, _&&_, _||_}
-use mathlib.Core.Logic.{_⊎_, inl, inr}
+use mathlib.Core.Path.{_≡_, refl, _∙_}
+use mathlib.Core.Bool.{Bool, true, false, not, _&&_, _||_}
+use mathlib.Core.Logic.{inl, inr}
 use mathlib.Core.List.{List, [], _∷_, _++_}
 use Prim.Native.Nat.{ℕ, zero, suc, _+_, _<_, _≤_}
 use native.Mathlib.Omega.{arith}
@@ -11,7 +11,7 @@ use lib.ListN.{length, getD, drop, drop-of-length-le}
 use lib.Seq.{drop-cons}
 use lib.Dec.{eqb}
 use borrow.Author.Tests.{eqb-true, eq-eqb, ne-eqb}
-use Rattle.laws.specs.Tests.{Is, split, clash, and-l, and-r, and-i, or-e, or-l, or-r}
+use Rattle.laws.specs.Tests.{Is, clash, and-l, and-r, and-i, or-e, or-l, or-r}
 
 -- each element of a list is so
 unfoldable pub All {ℓ} : {A : Type ℓ} → (A → Type 0) → List A → Type 0
@@ -54,6 +54,15 @@ anyOf f (a ∷ l) = f a || anyOf f l
 -- the list has the number
 unfoldable pub has : ℕ → List ℕ → Bool
 has x l = anyOf (λ y. eqb y x) l
+
+-- no number stands twice in the list
+unfoldable pub different : List ℕ → Bool
+different [] = true
+different (u ∷ l) = not (has u l) && different l
+
+-- everything from a place on is 0
+unfoldable pub emptyFrom : ℕ → List ℕ → Bool
+emptyFrom n l = allOf (λ x. eqb x 0) (drop n l)
 
 module _ {ℓ} {A : Type ℓ} (f : A → Bool) where
   pub allOf-at : (l : List A) (i : ℕ) (d : A) → Is (allOf f l) → i < length l → Is (f (getD l i d))

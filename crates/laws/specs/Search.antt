@@ -1,15 +1,14 @@
 -- Searches: the lowest number below n that passes, and chains of tests of which the first that applies answers.
-use mathlib.Core.Path.{_≡_, refl, sym, ap, _∙_}
+use mathlib.Core.Path.{_≡_, refl, ap, _∙_}
 use mathlib.Core.Bool.{Bool, true, false, cond, _&&_}
 use mathlib.Core.Logic.{_⊎_, inl, inr}
-use mathlib.Core.List.{List, [], _∷_}
-use Prim.Native.Nat.{ℕ, zero, suc, _+_, _-_, _<_, _≤_}
+use Prim.Native.Nat.{ℕ, zero, suc, _+_, _<_, _≤_, _-_}
 use native.Mathlib.Omega.{arith}
 use native.Mathlib.Nat.{not-suc-le-zero}
 use native.Mathlib.Numerals.{add-one}
 use Rattle.laws.specs.declared.Found.{Found}
 use Rattle.laws.specs.declared.Found.the-variants.{At, Nothing}
-use Rattle.laws.specs.Tests.{Is, split, never, clash, same?, below?, and-l, and-r, and-i}
+use Rattle.laws.specs.Tests.{Is, never, clash, same?, below?, and-l, and-r, and-i}
 
 -- every number below n passes
 unfoldable pub allBelow : ℕ → (ℕ → Bool) → Bool
@@ -113,12 +112,6 @@ module _ (n : ℕ) (f : ℕ → Bool) where
         | inl h ↦ clash (m .passes) (l .first j h)
         | inr h ↦ elim (below? k j) [ inl g ↦ clash (l .passes) (m .first k g) | inr g ↦ omega arith ]
       ]
-
-  pub none-lowest : ((i : ℕ) → i < n → f i ≡ false) → lowest n f ≡ Nothing
-  none-lowest h = elim lowest? [
-    | inl w ↦ clash (w .2 .passes) (h (w .0) (w .2 .below))
-    | inr w ↦ w .0
-  ]
 
 -- A test of a chain: the answer for what it finds, or else the rest of the chain.
 unfoldable pub unless {ℓ} : {A : Type ℓ} → Found → (ℕ → A) → A → A

@@ -22,6 +22,10 @@ never z = absurd (omega arith)
 pub clash {ℓ} : {A : Type ℓ} {b : Bool} → b ≡ true → b ≡ false → A
 clash p q = never (cc)
 
+-- a test fails where what it names can't be so
+pub fails : (b : Bool) → (Is b → ⊥) → b ≡ false
+fails b h = elim (split b) [ inl e ↦ absurd (h e) | inr e ↦ e ]
+
 pub same? : (m n : ℕ) → (m ≡ n) ⊎ (m ≢ n)
 same? m n = elim (split (eqb m n)) [ inl e ↦ inl (eqb-true m n e) | inr e ↦ inr (eqb-false m n e) ]
 

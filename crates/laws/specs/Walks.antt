@@ -1,15 +1,15 @@
 -- Loops that test: what is left of a test from the place where the loop stands is the whole of it. Each law is a turn or an end of such a loop.
-use mathlib.Core.Path.{_≡_, refl, sym, ap, _∙_}
+use mathlib.Core.Path.{_≡_, refl}
 use mathlib.Core.Bool.{Bool, true, false}
-use mathlib.Core.Logic.{_⊎_, inl, inr}
-use mathlib.Core.List.{List, [], _∷_}
-use Prim.Native.Nat.{ℕ, zero, suc, _+_, _-_, _<_, _≤_}
+use mathlib.Core.Logic.{inl, inr}
+use mathlib.Core.List.{List}
+use Prim.Native.Nat.{ℕ, _+_, _<_, _≤_}
 use native.Mathlib.Omega.{arith}
 use native.Mathlib.Numerals.{add-one}
 use lib.ListN.{length, getD, drop, drop-of-length-le}
 use lib.Seq.{drop-cons}
 use Rattle.laws.specs.Tests.{Is, split, clash, and-i}
-use Rattle.laws.specs.Lists.{allOf, anyOf, walk-step, walk-end}
+use Rattle.laws.specs.Lists.{allOf, anyOf}
 use Rattle.laws.specs.Search.{allBelow, allBelow-at, allBelow-all}
 
 -- Over a list: every element passes, some element passes.

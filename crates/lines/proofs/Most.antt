@@ -6,16 +6,16 @@ use native.Mathlib.Omega.{arith}
 use native.Mathlib.Nat.{le-trans}
 use lib.ListN.{length, length-append}
 use lib.Dec.{lit≤}
+use Rattle.reading.specs.declared.Form.{Form}
+use Rattle.reading.specs.Reading.{formNumber, formOffset}
+use Rattle.rules.specs.declared.Verdict.{Verdict}
+use Rattle.rules.specs.declared.Verdict.the-variants.{Accepted, Broken}
 use Rattle.events.specs.declared.Refusal.the-variants.{IllFormed, BadEvent, NotRed, Occupied, Held, NotGreen, HomeOccupied, TrainIn, TrainOut, Red}
 use Rattle.events.specs.declared.Harm.the-variants.{Collision, RunThrough, Derailment}
 use Rattle.events.specs.declared.Deed.the-variants.{Granted, Cancelled, Entered, Moved, Left}
 use Rattle.events.specs.declared.Answer.{Answer}
 use Rattle.events.specs.declared.Answer.the-variants.{Refused, Accident, Done}
 use Rattle.events.specs.Answers.{answerValues}
-use Rattle.rules.specs.declared.Verdict.{Verdict}
-use Rattle.rules.specs.declared.Verdict.the-variants.{Accepted, Broken}
-use Rattle.scan.specs.declared.Form.{Form}
-use Rattle.scan.specs.Reading.{formNumber, formOffset}
 use Rattle.lines.specs.Decimal.{decimal, numberMost}
 use Rattle.lines.specs.Lines.{bytesOf, line, refusalWords, harmWords, deedWords, answerWords, tableNumber, answerLine, verdictLine, formLine, lineMost}
 use Rattle.lines.proofs.Digits.{decimal-most}

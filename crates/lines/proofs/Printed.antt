@@ -1,13 +1,13 @@
 -- The lines that document 01 writes out, computed from the definitions.
 use mathlib.Core.Path.{_≡_, refl}
 use mathlib.Core.List.{[], _∷_, _++_, map}
+use Rattle.reading.specs.declared.Form.the-variants.{BadNumber, LeftOver}
+use Rattle.rules.specs.declared.Verdict.the-variants.{Accepted, Broken}
 use Rattle.events.specs.declared.Answer.the-variants.{Refused, Accident, Done}
 use Rattle.events.specs.declared.Deed.the-variants.{Granted, Cancelled, Entered, Moved, Left}
 use Rattle.events.specs.declared.Refusal.the-variants.{NotRed, Occupied, Held, HomeOccupied, Red}
 use Rattle.events.specs.declared.Harm.the-variants.{Collision, RunThrough, Derailment}
 use Rattle.events.specs.Answers.{refusalNumber, refusalValues, harmNumber, harmValues, deedValues, answerValues}
-use Rattle.rules.specs.declared.Verdict.the-variants.{Accepted, Broken}
-use Rattle.scan.specs.declared.Form.the-variants.{BadNumber, LeftOver}
 use Rattle.lines.specs.Decimal.{decimalIn, decimal}
 use Rattle.lines.specs.Lines.{bytesOf, line, refusalWords, harmWords, deedWords, answerWords, tableNumber, answerLine, verdictLine, formLine}
 

@@ -4,10 +4,10 @@ use mathlib.Core.List.{[], _∷_, _++_}
 use types.Run.{OneOf, miss}
 use denote.Enum.Declared.{tagOf}
 use Rattle.events.specs.declared.Refusal.{Refusal}
-use Rattle.events.proofs.Refusal.{the-type}
 use Rattle.events.specs.declared.Refusal.the-variants.{IllFormed, BadEvent, NotRed, Occupied, Held, NotGreen, HomeOccupied, TrainIn, TrainOut, Red}
 use Rattle.events.specs.declared.Answer.the-variants.{Refused}
 use Rattle.events.specs.Answers.{refusalNumber, refusalValues, answerValues}
+use Rattle.events.proofs.Refusal.{the-type}
 use Rattle.lines.specs.Decimal.{decimal}
 use Rattle.lines.specs.Lines.{bytesOf, end, line, refusalWords, answerWords, tableNumber, answerLine}
 

@@ -3,6 +3,10 @@ use mathlib.Core.List.{List, [], _∷_, _++_}
 use Prim.Native.Nat.{ℕ, _+_}
 use Prim.Native.Char.{code}
 use Prim.Native.String.{String, [] as empty, _∷_ as _then_}
+use Rattle.reading.specs.declared.Form.{Form}
+use Rattle.reading.specs.Reading.{formNumber, formOffset}
+use Rattle.rules.specs.declared.Verdict.{Verdict}
+use Rattle.rules.specs.declared.Verdict.the-variants.{Accepted, Broken}
 use Rattle.events.specs.declared.Refusal.{Refusal}
 use Rattle.events.specs.declared.Refusal.the-variants.{IllFormed, BadEvent, NotRed, Occupied, Held, NotGreen, HomeOccupied, TrainIn, TrainOut, Red}
 use Rattle.events.specs.declared.Harm.{Harm}
@@ -12,10 +16,6 @@ use Rattle.events.specs.declared.Deed.the-variants.{Granted, Cancelled, Entered
 use Rattle.events.specs.declared.Answer.{Answer}
 use Rattle.events.specs.declared.Answer.the-variants.{Refused, Accident, Done}
 use Rattle.events.specs.Answers.{refusalNumber, harmNumber, answerValues}
-use Rattle.rules.specs.declared.Verdict.{Verdict}
-use Rattle.rules.specs.declared.Verdict.the-variants.{Accepted, Broken}
-use Rattle.scan.specs.declared.Form.{Form}
-use Rattle.scan.specs.Reading.{formNumber, formOffset}
 use Rattle.lines.specs.Decimal.{decimal, numberMost}
 
 -- the bytes of a text: each character here is one byte

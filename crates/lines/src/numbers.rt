@@ -1,10 +1,10 @@
 // The document's numbers of an answer and a form.
 use events::Harm;
 use events::Refusal;
-use scan::Form;
+use reading::Form;
 ghost use mathlib.Core.Path.{_≡_};
 ghost use Rattle.events.specs.Answers.{refusalNumber, harmNumber};
-ghost use Rattle.scan.specs.Reading.{formNumber, formOffset};
+ghost use Rattle.reading.specs.Reading.{formNumber, formOffset};
 
 pub fn refusal_number(refusal: Refusal) -> usize
     ensures { λ r. ⌜ r ≡ refusalNumber refusal ⌝ }

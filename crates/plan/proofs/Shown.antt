@@ -1,7 +1,7 @@
 -- The image of a plan shows the plan: each list stands in a slot of its own, each thing at a place of its own. Assumes nothing.
 use mathlib.Core.Path.{_≡_, refl, sym, ap₂, _∙_}
 use mathlib.Core.List.{List, [], _∷_, _++_, append-assoc, append-nil}
-use Prim.Native.Nat.{ℕ, suc, _+_, _*_, _-_, _≤_}
+use Prim.Native.Nat.{ℕ, suc, _+_, _*_, _≤_, _-_}
 use native.Mathlib.Nat.{add-zero, mul-zero, mul-suc, min-eq-right, mul-le-mul-left}
 use native.Mathlib.Omega.{arith}
 use lib.ListN.{length, replicate, length-append, length-replicate}

@@ -1,22 +1,23 @@
 -- What an image shows of its plan, at the offsets that the code computes. Assumes nothing.
+use mathlib.Core.Bool.{Bool}
 use mathlib.Core.Path.{_≡_, refl, sym, ap, _∙_}
 use mathlib.Core.Logic.{_⊎_, inl, inr, ⊎-elim}
 use mathlib.Core.List.{List, [], _∷_, _++_}
-use Prim.Native.Nat.{ℕ, zero, suc, _+_, _*_, _-_, _<_, _≤_, min}
+use Prim.Native.Nat.{ℕ, zero, suc, _+_, _*_, _<_, _≤_, _-_}
 use native.Mathlib.Nat.{min-eq-left, min-eq-right, min-le-left}
 use native.Mathlib.Omega.{arith}
-use lib.ListN.{length, getD, take, drop, List·getD-eq-default}
+use lib.ListN.{length, getD, take, drop, length-take, List·getD-eq-default}
 use lib.Seq.{drop-cons}
-use mathlib.Core.Bool.{true}
-use lib.Dec.{ltb, eqb}
+use lib.Dec.{ltb}
 use native.Mathlib.Numerals.{add-one}
-use borrow.Author.Tests.{eq-eqb, ne-eqb, lt-ltb, le-ltb, ltb-true, ltb-false}
+use borrow.Author.Tests.{lt-ltb, le-ltb, ltb-true, ltb-false}
 use Rattle.laws.specs.Tests.{split}
 use Rattle.laws.specs.Tables.{tab, length-tab, getD-tab, tab-cong}
 use Rattle.laws.specs.Lists.{joined}
 use Rattle.plan.specs.declared.Track.{Track}
 use Rattle.plan.specs.Limits.{mostTracks, mostSignals, mostRoutes, mostEntries, trackSize, releaseSize, routeSize, entrySize, tracksAt, signalsAt, routesAt, entriesAt, imageSize}
-use Rattle.plan.specs.Records.{facing, trailing, Plan, Route, isPoint, noTrack, noRoute, noEntry, trackOf, routeOf, entryOf}
+use Rattle.plan.specs.Kinds.{point, isPoint, noTrack}
+use Rattle.plan.specs.Records.{Plan, Route, noRoute, noEntry, trackOf, routeOf, entryOf}
 use Rattle.plan.specs.File.{releaseFile}
 use Rattle.plan.specs.Image.{countIn, listIn, thingsIn, trackIn, releaseIn, releasesIn, routeIn, entryIn, tracksIn, signalsIn, planOf, routeList}
 
@@ -145,12 +146,12 @@ route-list image r at most pick e f = ⊎-elim (λ h. route-list-at image r at m
     decide : (i n : ℕ) → (i < n) ⊎ (n ≤ i)
     decide i n = elim (split (ltb i n)) [ inl w ↦ inl (ltb-true i n w) | inr w ↦ inr (ltb-false i n w) ]
 
--- A point, by the kind of its track.
-module _ (p : Plan) (u : ℕ) {t : Track} (e : t ≡ trackOf p u) where
-  pub point-facing : t .kind ≡ facing → true ≡ isPoint (p .tracks) u
-  unfolding trackOf isPoint
-  point-facing h = rw (← e, eq-eqb _ _ h)
+-- A point is named by its track.
+pub point-named : (p : Plan) (u : ℕ) {t : Track} {b : Bool} → t ≡ trackOf p u → b ≡ point t → b ≡ isPoint (p .tracks) u
+unfolding trackOf isPoint
+point-named p u e h = h ∙ rw e
 
-  pub point-trailing : (t .kind ≡ facing → ⊥) → eqb (t .kind) trailing ≡ isPoint (p .tracks) u
-  unfolding trackOf isPoint
-  point-trailing h = rw (← e, ne-eqb _ _ h)
+-- The plan in memory has no more signals than there may be.
+pub signals-most : (image : List ℕ) → length (planOf image .signals) ≤ mostSignals
+unfolding planOf signalsIn listIn
+signals-most image = rw (length-take (countIn image signalsAt mostSignals) (drop (signalsAt + 1) image)) (omega (arith, count-most image signalsAt mostSignals))

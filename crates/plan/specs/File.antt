@@ -1,6 +1,5 @@
--- What reading means: the plans that a file can hold, and the file of a plan as document 01 lays it out.
+-- The plan file: the plans that a file can hold, and the file of a plan as document 01 lays it out.
 use Prim.Native.Nat.{ℕ, _+_, _<_, _≤_}
-use mathlib.Core.Path.{_≡_}
 use mathlib.Core.List.{List, [], _∷_, _++_, map}
 use lib.ListN.{length, getD}
 use Rattle.laws.specs.Tests.{Is}
@@ -8,7 +7,8 @@ use Rattle.laws.specs.Lists.{All, joined}
 use Rattle.plan.specs.declared.Track.{Track}
 use Rattle.plan.specs.declared.Release.{Release}
 use Rattle.plan.specs.Limits.{leastTracks, mostTracks, mostSignals, mostRoutes, mostEntries, leastPath, mostPath, mostClear, mostPoints, mostReleases}
-use Rattle.plan.specs.Records.{exit, Route, Entry, Plan, isPoint, limitOf}
+use Rattle.plan.specs.Kinds.{kinds, isPoint, limitOf}
+use Rattle.plan.specs.Records.{Route, Entry, Plan}
 
 -- The file of a plan.
 
@@ -48,9 +48,9 @@ pub record Within {A : Type 0} (least most : ℕ) (ok : A → Type 0) (l : List 
   pub few : length l ≤ most
   pub each : All ok l
 
--- the kind is 0 to 3; a number that the kind uses names a track, one that it doesn't use is 0
+-- the kind is one of those that there are; a number that the kind uses names a track, one that it doesn't use is 0
 pub record ReadableTrack (tracks : ℕ) (t : Track) : Type 0 where
-  pub kind : t .kind ≤ exit
+  pub kind : t .kind < kinds
   pub first : t .first < limitOf tracks (t .kind) 0
   pub second : t .second < limitOf tracks (t .kind) 1
   pub third : t .third < limitOf tracks (t .kind) 2

@@ -1,5 +1,5 @@
 -- The plan in memory: the file with every list at its full length, zeros past its end, so that each thing stands at an offset of its own.
-use Prim.Native.Nat.{ℕ, _+_, _*_, _-_, min}
+use Prim.Native.Nat.{ℕ, _+_, _*_, min, _-_}
 use mathlib.Core.Bool.{cond}
 use mathlib.Core.List.{List, [], _∷_, _++_}
 use lib.Dec.{ltb}

@@ -1,5 +1,7 @@
 // What the plan in memory shows, of any image whatever: the rooms above read a plan through these alone and know nothing of its layout.
 use crate::Track;
+use crate::kinds::no_track;
+use crate::kinds::point;
 use crate::limits::CLEAR;
 use crate::limits::CLEAR_AT;
 use crate::limits::ENTRIES;
@@ -23,22 +25,17 @@ use crate::limits::SIGNALS_AT;
 use crate::limits::TRACK_SIZE;
 use crate::limits::TRACKS;
 use crate::limits::TRACKS_AT;
+use lists::wide;
 ghost use mathlib.Core.Path.{_≡_};
 ghost use Prim.Native.Nat.{_+_, _*_, _<_, _≤_};
-ghost use lib.ListN.{length, getD};
+ghost use lib.ListN.{length};
 ghost use Rattle.plan.specs.Limits.{imageSize, releaseSize, routeSize};
 ghost use mathlib.Core.List.{[]};
-ghost use Rattle.plan.specs.Records.{isPoint, trackOf, routeOf, entryOf};
+ghost use Rattle.plan.specs.Kinds.{isPoint};
+ghost use Rattle.plan.specs.Records.{trackOf, routeOf, entryOf};
 ghost use Rattle.plan.specs.File.{releaseFile};
 ghost use Rattle.plan.specs.Image.{countIn, listIn, releasesIn, planOf, routeList};
 ghost use Rattle.laws.specs.Lists.{joined};
-
-// A byte as a number.
-pub fn wide(x: u8) -> usize
-    ensures { λ r. ⌜ r ≡ x ⌝ }
-{
-    x as usize
-}
 
 // A count, or its limit where it is beyond.
 pub fn count_at(image: &[u8; IMAGE], at: usize, most: usize) -> usize
@@ -86,12 +83,7 @@ pub fn track_of(image: &[u8; IMAGE], track: usize) -> Track
     ensures { λ r. ⌜ r ≡ trackOf (planOf (now (image .entry))) track ⌝ }
 {
     if tracks(image) <= track {
-        return Track {
-            kind: 3,
-            first: 0,
-            second: 0,
-            third: 0,
-        };
+        return no_track();
     }
     let at = TRACKS_AT + 1 + TRACK_SIZE * track;
     Track {
@@ -221,9 +213,5 @@ pub fn entry_clear(image: &[u8; IMAGE], entry: usize) -> &[u8]
 pub fn is_point(image: &[u8; IMAGE], track: usize) -> bool
     ensures { λ r. ⌜ r ≡ isPoint (planOf (now (image .entry)) .tracks) track ⌝ }
 {
-    let found = track_of(image, track);
-    if found.kind == 1 {
-        return true;
-    }
-    found.kind == 2
+    point(track_of(image, track))
 }

@@ -1,9 +1,10 @@
 // The plan file and the plan in memory.
 pub mod image;
+pub mod kinds;
 pub mod limits;
 
-// A track: its kind (0 plain, 1 facing point, 2 trailing point, 3 exit) and three numbers. A plain track has its next track; a facing
-// point its normal and its reverse way out; a trailing point its next track, its normal and its reverse leg. What is not used is 0.
+// A track: its kind (kinds.rt) and three numbers. A plain track has its next track; a facing point its normal and its reverse way out; a
+// trailing point its next track, its normal and its reverse leg. What is not used is 0.
 pub struct Track {
     pub kind: u8,
     pub first: u8,

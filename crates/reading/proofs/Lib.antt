@@ -1,4 +1,8 @@
-pub mod Copying
-pub mod Filling
-pub mod Steps
-pub mod Stored
+pub mod Lists
+pub mod Meaning
+pub mod Scanned
+pub mod Chains
+pub mod Sections
+pub mod Bench
+pub mod Sound
+pub mod Whole

@@ -1,53 +1,325 @@
-// Reading a plan file into the plan's image, with the answers 1 to 5.
-mod store;
-
+// Deciding whether a file is a plan: each function looks and writes nothing. What it answers is what its reader of specs/Reading.antt
+// gives at that offset: the offset of the next byte, or the form of the first bad one.
+use lists::wide;
+use plan::image::is_point;
+use plan::image::signals;
 use plan::image::tracks;
+use plan::kinds::KINDS;
+use plan::kinds::uses;
+use plan::limits::CLEAR;
+use plan::limits::ENTRIES;
 use plan::limits::IMAGE;
-use plan::limits::SIGNALS;
-use plan::limits::SIGNALS_AT;
-use plan::limits::TRACK_SIZE;
-use plan::limits::TRACKS_AT;
-use scan::Form;
-use scan::Seen;
-use scan::entry_section;
-use scan::rising_list;
-use scan::route_section;
-use scan::track_section;
-use store::store_entries;
-use store::store_list;
-use store::store_routes;
+use plan::limits::LEAST_PATH;
+use plan::limits::LEAST_TRACKS;
+use plan::limits::PATH;
+use plan::limits::POINTS;
+use plan::limits::RELEASES;
+use plan::limits::ROUTES;
+use plan::limits::TRACKS;
 ghost use mathlib.Core.Path.{_≡_};
-ghost use Rattle.scan.specs.Reading.{parse, seen};
-ghost use Rattle.reading.specs.Storing.{afterReading};
+ghost use lib.ListN.{length};
+ghost use Rattle.plan.specs.Kinds.{isPoint, limitOf};
+ghost use Rattle.reading.specs.Reading.{below, count, entry, entrySection, number, pathList, pointList, release, releaseList, risingList, route, routeSection, scanned, track, trackSection};
+ghost use Rattle.plan.specs.Image.{planOf};
 
-// Reads a plan: what the file gives, and, where it is a plan, its image. A refusal leaves the lent image as it was.
-pub fn read(file: &[u8], image: &mut [u8; IMAGE]) -> Seen
-    ensures { λ r. ⌜ (r ≡ seen (parse (now (file .entry)))) × (now (image .exit) ≡ afterReading (parse (now (file .entry))) (now (image .entry))) ⌝ }
+// Why a file is no plan: one case for each number of the document's table, with the offset.
+pub enum Form {
+    EndsEarly(usize),
+    BadCount(usize),
+    BadNumber(usize),
+    NotRising(usize),
+    LeftOver(usize),
+}
+
+// How far reading came: to the offset of the next byte, or to a form.
+pub enum Seen {
+    Next(usize),
+    Refused(Form),
+}
+
+// A number below a limit, and not below the least one allowed.
+fn number_at(file: &[u8], at: usize, limit: usize, least: usize) -> Seen
+    ensures { λ r. ⌜ r ≡ scanned (number (below limit) least) (now (file .entry)) at ⌝ }
 {
-    let mut fresh = [0u8; IMAGE];
-    let track_answer = track_section(file, 0);
-    let Seen::Next(signals_from) = track_answer else {
-        return track_answer;
-    };
-    store_list(file, 0, TRACK_SIZE, &mut fresh, TRACKS_AT);
-    let signal_answer = rising_list(file, signals_from, tracks(&fresh), SIGNALS);
-    let Seen::Next(routes_from) = signal_answer else {
-        return signal_answer;
-    };
-    store_list(file, signals_from, 1, &mut fresh, SIGNALS_AT);
-    let route_answer = route_section(file, routes_from, &fresh);
-    let Seen::Next(entries_from) = route_answer else {
-        return route_answer;
-    };
-    let entry_answer = entry_section(file, entries_from, tracks(&fresh));
-    let Seen::Next(end) = entry_answer else {
-        return entry_answer;
-    };
-    if end < file.len() {
-        return Seen::Refused(Form::LeftOver(end));
+    if file.len() <= at {
+        return Seen::Refused(Form::EndsEarly(at));
     }
-    store_routes(file, routes_from, &mut fresh);
-    store_entries(file, entries_from, &mut fresh);
-    *image = fresh;
-    Seen::Next(end)
+    let found = wide(file[at]);
+    if limit <= found {
+        return Seen::Refused(Form::BadNumber(at));
+    }
+    if found < least {
+        return Seen::Refused(Form::NotRising(at));
+    }
+    Seen::Next(at + 1)
+}
+
+// A point, not below the least one allowed.
+fn point_at(file: &[u8], at: usize, image: &[u8; IMAGE], least: usize) -> Seen
+    ensures { λ r. ⌜ r ≡ scanned (number (isPoint (planOf (now (image .entry)) .tracks)) least) (now (file .entry)) at ⌝ }
+{
+    if file.len() <= at {
+        return Seen::Refused(Form::EndsEarly(at));
+    }
+    let found = wide(file[at]);
+    if is_point(image, found) {
+        if found < least {
+            return Seen::Refused(Form::NotRising(at));
+        }
+        return Seen::Next(at + 1);
+    }
+    Seen::Refused(Form::BadNumber(at))
+}
+
+// A count within its limits.
+fn count_of(file: &[u8], at: usize, least: usize, most: usize) -> Seen
+    ensures { λ r. ⌜ r ≡ scanned (count least most) (now (file .entry)) at ⌝ }
+{
+    if file.len() <= at {
+        return Seen::Refused(Form::EndsEarly(at));
+    }
+    let found = wide(file[at]);
+    if found < least {
+        return Seen::Refused(Form::BadCount(at));
+    }
+    if most < found {
+        return Seen::Refused(Form::BadCount(at));
+    }
+    Seen::Next(at + 1)
+}
+
+// A path, in travel order.
+fn path_list(file: &[u8], from: usize, tracks: usize) -> Seen
+    ensures { λ r. ⌜ r ≡ scanned (pathList tracks) (now (file .entry)) from ⌝ }
+{
+    let counted = count_of(file, from, LEAST_PATH, PATH);
+    let Seen::Next(first) = counted else {
+        return counted;
+    };
+    let mut left = wide(file[from]);
+    let mut at = first;
+    while 0 < left {
+        let seen = number_at(file, at, tracks, 0);
+        let Seen::Next(next) = seen else {
+            return seen;
+        };
+        at = next;
+        left -= 1;
+    }
+    Seen::Next(at)
+}
+
+// A list of tracks that rises strictly.
+pub fn rising_list(file: &[u8], from: usize, tracks: usize, most: usize) -> Seen
+    ensures { λ r. ⌜ r ≡ scanned (risingList tracks most) (now (file .entry)) from ⌝ }
+{
+    let counted = count_of(file, from, 0, most);
+    let Seen::Next(first) = counted else {
+        return counted;
+    };
+    let mut left = wide(file[from]);
+    let mut at = first;
+    let mut least: usize = 0;
+    while 0 < left {
+        let seen = number_at(file, at, tracks, least);
+        let Seen::Next(next) = seen else {
+            return seen;
+        };
+        least = wide(file[at]) + 1;
+        at = next;
+        left -= 1;
+    }
+    Seen::Next(at)
+}
+
+// A list of points that rises strictly.
+fn point_list(file: &[u8], from: usize, image: &[u8; IMAGE]) -> Seen
+    ensures { λ r. ⌜ r ≡ scanned (pointList (planOf (now (image .entry)) .tracks)) (now (file .entry)) from ⌝ }
+{
+    let counted = count_of(file, from, 0, POINTS);
+    let Seen::Next(first) = counted else {
+        return counted;
+    };
+    let mut left = wide(file[from]);
+    let mut at = first;
+    let mut least: usize = 0;
+    while 0 < left {
+        let seen = point_at(file, at, image, least);
+        let Seen::Next(next) = seen else {
+            return seen;
+        };
+        least = wide(file[at]) + 1;
+        at = next;
+        left -= 1;
+    }
+    Seen::Next(at)
+}
+
+// The limit of a track's i-th number, by the track's kind.
+fn limit_of(tracks: usize, kind: u8, i: usize) -> usize
+    ensures { λ r. ⌜ r ≡ limitOf tracks kind i ⌝ }
+{
+    if i < uses(kind) {
+        return tracks;
+    }
+    1
+}
+
+// A track: its kind and three numbers.
+fn track_at(file: &[u8], at: usize, tracks: usize) -> Seen
+    ensures { λ r. ⌜ r ≡ scanned (track tracks) (now (file .entry)) at ⌝ }
+{
+    let kind_seen = number_at(file, at, KINDS, 0);
+    let Seen::Next(first) = kind_seen else {
+        return kind_seen;
+    };
+    let kind = file[at];
+    let first_seen = number_at(file, first, limit_of(tracks, kind, 0), 0);
+    let Seen::Next(second) = first_seen else {
+        return first_seen;
+    };
+    let second_seen = number_at(file, second, limit_of(tracks, kind, 1), 0);
+    let Seen::Next(third) = second_seen else {
+        return second_seen;
+    };
+    number_at(file, third, limit_of(tracks, kind, 2), 0)
+}
+
+// Section 1: the tracks after their count.
+pub fn track_section(file: &[u8], from: usize) -> Seen
+    ensures { λ r. ⌜ r ≡ scanned trackSection (now (file .entry)) from ⌝ }
+{
+    let counted = count_of(file, from, LEAST_TRACKS, TRACKS);
+    let Seen::Next(first) = counted else {
+        return counted;
+    };
+    let tracks = wide(file[from]);
+    let mut left = tracks;
+    let mut at = first;
+    while 0 < left {
+        let seen = track_at(file, at, tracks);
+        let Seen::Next(next) = seen else {
+            return seen;
+        };
+        at = next;
+        left -= 1;
+    }
+    Seen::Next(at)
+}
+
+// A release: a track, then a point not below the least one allowed.
+fn release_at(file: &[u8], at: usize, image: &[u8; IMAGE], least: usize) -> Seen
+    ensures { λ r. ⌜ r ≡ scanned (release (planOf (now (image .entry)) .tracks) least) (now (file .entry)) at ⌝ }
+{
+    let track_seen = number_at(file, at, tracks(image), 0);
+    let Seen::Next(point) = track_seen else {
+        return track_seen;
+    };
+    point_at(file, point, image, least)
+}
+
+// The releases of a route, which rise strictly by point.
+fn release_list(file: &[u8], from: usize, image: &[u8; IMAGE]) -> Seen
+    ensures { λ r. ⌜ r ≡ scanned (releaseList (planOf (now (image .entry)) .tracks)) (now (file .entry)) from ⌝ }
+{
+    let counted = count_of(file, from, 0, RELEASES);
+    let Seen::Next(first) = counted else {
+        return counted;
+    };
+    let mut left = wide(file[from]);
+    let mut at = first;
+    let mut least: usize = 0;
+    while 0 < left {
+        let seen = release_at(file, at, image, least);
+        let Seen::Next(next) = seen else {
+            return seen;
+        };
+        least = wide(file[at + 1]) + 1;
+        at = next;
+        left -= 1;
+    }
+    Seen::Next(at)
+}
+
+// A route: its start signal and five lists.
+fn route_at(file: &[u8], at: usize, image: &[u8; IMAGE]) -> Seen
+    ensures { λ r. ⌜ r ≡ scanned (route (planOf (now (image .entry)) .tracks) (length (planOf (now (image .entry)) .signals))) (now (file .entry)) at ⌝ }
+{
+    let tracks = tracks(image);
+    let start = number_at(file, at, signals(image), 0);
+    let Seen::Next(path_from) = start else {
+        return start;
+    };
+    let path = path_list(file, path_from, tracks);
+    let Seen::Next(clear_from) = path else {
+        return path;
+    };
+    let clear = rising_list(file, clear_from, tracks, CLEAR);
+    let Seen::Next(normal_from) = clear else {
+        return clear;
+    };
+    let normal = point_list(file, normal_from, image);
+    let Seen::Next(reverse_from) = normal else {
+        return normal;
+    };
+    let reverse = point_list(file, reverse_from, image);
+    let Seen::Next(releases_from) = reverse else {
+        return reverse;
+    };
+    release_list(file, releases_from, image)
+}
+
+// Section 3: the routes after their count.
+pub fn route_section(file: &[u8], from: usize, image: &[u8; IMAGE]) -> Seen
+    ensures { λ r. ⌜ r ≡ scanned (routeSection (planOf (now (image .entry)) .tracks) (length (planOf (now (image .entry)) .signals))) (now (file .entry)) from ⌝ }
+{
+    let counted = count_of(file, from, 0, ROUTES);
+    let Seen::Next(first) = counted else {
+        return counted;
+    };
+    let mut left = wide(file[from]);
+    let mut at = first;
+    while 0 < left {
+        let seen = route_at(file, at, image);
+        let Seen::Next(next) = seen else {
+            return seen;
+        };
+        at = next;
+        left -= 1;
+    }
+    Seen::Next(at)
+}
+
+// An entry: its track, not below the least one allowed, and its clear list.
+fn entry_at(file: &[u8], at: usize, tracks: usize, least: usize) -> Seen
+    ensures { λ r. ⌜ r ≡ scanned (entry tracks least) (now (file .entry)) at ⌝ }
+{
+    let on = number_at(file, at, tracks, least);
+    let Seen::Next(clear_from) = on else {
+        return on;
+    };
+    rising_list(file, clear_from, tracks, CLEAR)
+}
+
+// Section 4: the entries after their count.
+pub fn entry_section(file: &[u8], from: usize, tracks: usize) -> Seen
+    ensures { λ r. ⌜ r ≡ scanned (entrySection tracks) (now (file .entry)) from ⌝ }
+{
+    let counted = count_of(file, from, 0, ENTRIES);
+    let Seen::Next(first) = counted else {
+        return counted;
+    };
+    let mut left = wide(file[from]);
+    let mut at = first;
+    let mut least: usize = 0;
+    while 0 < left {
+        let seen = entry_at(file, at, tracks, least);
+        let Seen::Next(next) = seen else {
+            return seen;
+        };
+        least = wide(file[at]) + 1;
+        at = next;
+        left -= 1;
+    }
+    Seen::Next(at)
 }

@@ -1,23 +1,25 @@
 -- What a route's lists as read say of its rules.
 use mathlib.Core.Path.{_≡_, refl, sym, ap, _∙_}
-use mathlib.Core.Bool.{Bool, true, false, not, cond, _&&_, _||_}
-use mathlib.Core.List.{List, [], _∷_, _++_}
-use Prim.Native.Nat.{ℕ, zero, suc, _+_, _*_, _-_, _/_, _<_, _≤_}
+use mathlib.Core.Bool.{Bool, true, false, not, cond}
+use mathlib.Core.List.{List, [], _∷_}
+use Prim.Native.Nat.{ℕ, zero, suc, _+_, _*_, _/_, _<_, _≤_, _-_}
 use native.Mathlib.Omega.{arith}
 use native.Mathlib.Numerals.{add-one}
 use native.Mathlib.Nat.{min-le-left}
 use lib.ListN.{length, getD, drop, List·getD-eq-default, length-take}
 use lib.Dec.{ltb}
 use borrow.Author.Tests.{lt-ltb, le-ltb}
-use Rattle.laws.specs.Lists.{allOf, has, joined}
+use Rattle.laws.specs.Lists.{allOf, has, joined, different}
 use Rattle.plan.specs.declared.Release.{Release}
 use Rattle.plan.specs.Limits.{mostPath, pathAt, mostRoutes, routesAt, routeSize}
-use Rattle.plan.specs.Records.{Plan, homeOf, routeOf}
-use Rattle.plan.specs.Layout.{forks, legged, leads, isHome}
+use Rattle.plan.specs.Kinds.{forks, legged}
+use Rattle.plan.specs.Records.{Plan, homeOf, routeOf, trackOf}
+use Rattle.plan.specs.Layout.{leads, isHome}
+use Rattle.plan.specs.Routes.{noRelease, pointsOf, pathLength, wayOf, trackAt}
 use Rattle.plan.specs.File.{releaseFile}
 use Rattle.plan.specs.Image.{countIn, listIn, routeIn, planOf, routeList}
 use Rattle.plan.proofs.View.{count-most, route-list}
-use Rattle.rules.specs.Rules.{noRelease, different, pathLength, wayOf, trackAt, pointsOf, wants, listedOut, listedIn, linkedAt, noHomeAt, pathClear, facingListed, trailingListed, releaseFits}
+use Rattle.rules.specs.Rules.{wants, listedOut, listedIn, linkedAt, noHomeAt, pathClear, facingListed, trailingListed, releaseFits}
 
 list-most : (image : List ℕ) (at most : ℕ) → length (listIn image at most) ≤ most
 unfolding listIn
@@ -56,7 +58,7 @@ module _ (p : Plan) (r : ℕ) where
   linked-read i d e w = w ∙ rw (d, e, add-one i)
 
   module _ (i : ℕ) {x : ℕ} {b : Bool} (d : x ≡ trackAt p r (i + 1)) where
-    module _ (e : b ≡ forks p x) where
+    module _ (e : b ≡ forks (trackOf p x)) where
       pub facing-none : b ≡ false → true ≡ facingListed p r i
       unfolding facingListed
       facing-none t = rw (← add-one i, ← d, ← e, t)
@@ -70,7 +72,7 @@ module _ (p : Plan) (r : ℕ) where
         unfolding facingListed
         facing-next t h w y = let z : suc (i + 1) ≡ i + 2 = omega arith in y ∙ rw (← add-one i, ← d, ← e, t, ← q, lt-ltb (i + 1) (length l) h, z, ← w)
 
-    module _ (e : b ≡ legged p x) where
+    module _ (e : b ≡ legged (trackOf p x)) where
       pub trailing-none : b ≡ false → true ≡ trailingListed p r i
       unfolding trailingListed
       trailing-none t = rw (← add-one i, ← d, ← e, t)

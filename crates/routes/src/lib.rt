@@ -1,36 +1,32 @@
 // Rules 6 to 11, whose rows are routes.
-mod lists;
-
-use crate::lists::all_in;
-use crate::lists::different;
-use crate::lists::later;
-use crate::lists::none_in;
-use layout::has;
 use layout::home_of;
 use layout::is_exit;
-use layout::is_facing;
+use layout::is_forking;
 use layout::is_home;
-use layout::is_trailing;
+use layout::is_legged;
 use layout::leads_to;
 use layout::leg_of;
 use layout::way_out;
+use lists::all_in;
+use lists::different;
+use lists::has;
+use lists::none_in;
+use lists::wide;
 use plan::image::clear_of;
 use plan::image::normal_of;
 use plan::image::path_of;
 use plan::image::releases_of;
 use plan::image::reverse_of;
 use plan::image::start_of;
-use plan::image::wide;
 use plan::limits::IMAGE;
 ghost use mathlib.Core.Path.{_≡_};
 ghost use Prim.Native.Nat.{_-_, _<_};
-ghost use lib.ListN.{length};
-ghost use Rattle.laws.specs.Lists.{allOf};
+ghost use Rattle.laws.specs.Lists.{allOf, different};
 ghost use Rattle.laws.specs.Search.{allBelow};
 ghost use Rattle.plan.specs.Records.{routeOf};
 ghost use Rattle.plan.specs.Image.{planOf};
-ghost use Rattle.rules.specs.Rules.{pathLength, wayOf, trackAt, pointsOf, wants, wantsOut, listedOut, wantsIn, listedIn, listed, linkedAt, pathLinked, noHomeAt, ends, pathEnds, pathClear, facingListed, trailingListed, pointsListed, pointsClear, released, releaseFits, releasesFit};
-ghost use Rattle.rules.specs.Rules as rules;
+ghost use Rattle.plan.specs.Routes.{pointsOf, listed, released, pathLength, wayOf, trackAt};
+ghost use Rattle.rules.specs.Rules.{later, wants, wantsOut, listedOut, wantsIn, listedIn, linkedAt, pathLinked, noHomeAt, ends, pathEnds, pathClear, facingListed, trailingListed, pointsListed, pointsClear, releaseFits, releasesFit};
 
 // A route's track at a place: its home at 0, its path from 1 on.
 fn track_at(image: &[u8; IMAGE], route: usize, place: usize) -> usize
@@ -75,7 +71,7 @@ fn links(image: &[u8; IMAGE], route: usize) -> bool
 
 // Whether home and path tracks are all different.
 fn way_differs(image: &[u8; IMAGE], route: usize) -> bool
-    ensures { λ r. ⌜ r ≡ rules.different (wayOf (planOf (now (image .entry))) route) ⌝ }
+    ensures { λ r. ⌜ r ≡ different (wayOf (planOf (now (image .entry))) route) ⌝ }
 {
     let path = path_of(image, route);
     if has(path, track_at(image, route, 0)) {
@@ -194,7 +190,7 @@ fn facing_listed(image: &[u8; IMAGE], route: usize, i: usize) -> bool
     ensures { λ r. ⌜ r ≡ facingListed (planOf (now (image .entry))) route i ⌝ }
 {
     let point = track_at(image, route, i + 1);
-    if !is_facing(image, point) {
+    if !is_forking(image, point) {
         return true;
     }
     let path = path_of(image, route);
@@ -224,7 +220,7 @@ fn trailing_listed(image: &[u8; IMAGE], route: usize, i: usize) -> bool
     ensures { λ r. ⌜ r ≡ trailingListed (planOf (now (image .entry))) route i ⌝ }
 {
     let point = track_at(image, route, i + 1);
-    if !is_trailing(image, point) {
+    if !is_legged(image, point) {
         return true;
     }
     listed_in(image, route, point, track_at(image, route, i))
@@ -271,12 +267,26 @@ pub fn points_clear(image: &[u8; IMAGE], route: usize) -> bool
 }
 
 fn is_listed(image: &[u8; IMAGE], route: usize, point: usize) -> bool
-    ensures { λ r. ⌜ r ≡ listed (planOf (now (image .entry))) route point ⌝ }
+    ensures { λ r. ⌜ r ≡ listed (routeOf (planOf (now (image .entry))) route .normal) (routeOf (planOf (now (image .entry))) route .reverse) point ⌝ }
 {
-    if wants_lie(image, route, point, false) {
+    if has(normal_of(image, route), point) {
         return true;
     }
-    wants_lie(image, route, point, true)
+    has(reverse_of(image, route), point)
+}
+
+// Whether a track is on a path, and later than a point where the point is on it.
+fn later(track: usize, point: usize, path: &[u8]) -> bool
+    ensures { λ r. ⌜ r ≡ later track point (now (path .entry)) ⌝ }
+{
+    let mut i = 0;
+    while i < path.len() {
+        if wide(path[i]) == track {
+            return !has(&path[i..], point);
+        }
+        i += 1;
+    }
+    false
 }
 
 fn release_fits(image: &[u8; IMAGE], route: usize, track: usize, point: usize) -> bool

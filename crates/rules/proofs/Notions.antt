@@ -1,25 +1,23 @@
 -- What the notions that the rules share mean: each test is true exactly when what it names is so.
-use mathlib.Core.Path.{_≡_, refl, sym, ap}
+use mathlib.Core.Path.{_≡_, refl, sym}
 use mathlib.Core.Bool.{Bool, true, false, not, _&&_, _||_}
-use mathlib.Core.Logic.{_≢_, _⊎_, inl, inr}
+use mathlib.Core.Logic.{_≢_, _⊎_, inl, inr, _↔_}
 use mathlib.Core.List.{List, [], _∷_}
 use Prim.Native.Nat.{ℕ, zero, suc, _<_}
 use native.Mathlib.Omega.{arith}
 use native.Mathlib.Nat.{not-suc-le-zero}
-use lib.ListN.{length, getD, List·getD-eq-default}
+use lib.ListN.{length, getD}
 use lib.Dec.{eqb}
 use borrow.Author.Tests.{eqb-true, eqb-false, eq-eqb}
-use Rattle.laws.specs.Tests.{Is, split, clash, below?, and-l, and-r, and-i, or-e, or-l, or-r, not-t, not-i}
-use Rattle.laws.specs.Lists.{has, In, has-in, in-has, anyOf-at, anyOf-any}
+use Rattle.laws.specs.Tests.{Is, split, clash, and-l, and-r, and-i, or-e, or-l, or-r, not-t, not-i, fails}
+use Rattle.laws.specs.Lists.{has, In, has-in, in-has, different}
 use Rattle.laws.specs.Search.{allBelow-at, allBelow-all}
-use Rattle.plan.specs.Records.{Plan, noTrack, plain, facing, trailing, exit, trackOf, homeOf, routeOf}
-use Rattle.plan.specs.Layout.{isPlain, isExit, forks, legged, out, leg, leads, isHome}
-use Rattle.rules.specs.Rules.{noRelease, different, later, pointsOf, releaseOf, wants, wantsOut, listedOut, wantsIn, listedIn, listed, released, noneLeads, isLeg}
-use Rattle.rules.specs.Sentences.{Exactly, Plain, Exit, Facing, Trailing, Leads, Home, Listed, Released}
-
--- a test fails where what it names can't be so
-pub fails : (b : Bool) → (Is b → ⊥) → b ≡ false
-fails b h = elim (split b) [ inl e ↦ absurd (h e) | inr e ↦ e ]
+use Rattle.plan.specs.Kinds.{out, leg}
+use Rattle.plan.specs.Records.{Plan, trackOf}
+use Rattle.plan.specs.Layout.{leads, Leads}
+use Rattle.plan.specs.Routes.{pointsOf}
+use Rattle.plan.proofs.Says.{leads-is}
+use Rattle.rules.specs.Rules.{later, wants, wantsOut, listedOut, wantsIn, listedIn, noneLeads, isLeg}
 
 -- not both; not the one, or the other
 module _ (a b : Bool) where
@@ -36,80 +34,31 @@ module _ (a b : Bool) where
   imp-i h = elim (split a) [ inl t ↦ or-r (not a) b (h t) | inr t ↦ or-l (not a) b (not-i a t) ]
 
 module _ (p : Plan) where
-  pub plain-is : (u : ℕ) → Exactly (Is (isPlain p u)) (Plain p u)
-  unfolding isPlain
-  plain-is u = (eqb-true (trackOf p u .kind) plain, eq-eqb (trackOf p u .kind) plain)
-
-  pub exit-is : (u : ℕ) → Exactly (Is (isExit p u)) (Exit p u)
-  unfolding isExit
-  exit-is u = (eqb-true (trackOf p u .kind) exit, eq-eqb (trackOf p u .kind) exit)
-
-  pub facing-is : (u : ℕ) → Exactly (Is (forks p u)) (Facing p u)
-  unfolding forks
-  facing-is u = (eqb-true (trackOf p u .kind) facing, eq-eqb (trackOf p u .kind) facing)
-
-  pub trailing-is : (v : ℕ) → Exactly (Is (legged p v)) (Trailing p v)
-  unfolding legged
-  trailing-is v = (eqb-true (trackOf p v .kind) trailing, eq-eqb (trackOf p v .kind) trailing)
-
-  pub home-is : (u : ℕ) → Exactly (Is (isHome p u)) (Home p u)
-  unfolding isHome homeOf
-  home-is u = (has-in u (p .signals), in-has u (p .signals))
-
-  pub leads-is : (u v : ℕ) → Exactly (Is (leads p u v)) (Leads p u v)
-  unfolding leads
-  leads-is u v = (to, from)
-    where
-      either : Bool
-      either = eqb (out p u false) v || eqb (out p u true) v
-
-      to : Is (not (isExit p u) && either) → Leads p u v
-      to e = (λ x. clash (exit-is u .1 x) (not-t (isExit p u) (and-l (not (isExit p u)) either e)), way (or-e (eqb (out p u false) v) (eqb (out p u true) v) (and-r (not (isExit p u)) either e)))
-        where
-          way : Is (eqb (out p u false) v) ⊎ Is (eqb (out p u true) v) → (lie : Bool) × (out p u lie ≡ v)
-          way (inl w) = (false, eqb-true (out p u false) v w)
-          way (inr w) = (true, eqb-true (out p u true) v w)
-
-      from : Leads p u v → Is (not (isExit p u) && either)
-      from l = and-i (not (isExit p u)) either (not-i (isExit p u) (fails (isExit p u) (λ e. l .0 (exit-is u .0 e)))) (by (l .1 .0) (l .1 .1))
-        where
-          by : (lie : Bool) → out p u lie ≡ v → Is either
-          by false e = or-l (eqb (out p u false) v) (eqb (out p u true) v) (eq-eqb (out p u false) v e)
-          by true e = or-r (eqb (out p u false) v) (eqb (out p u true) v) (eq-eqb (out p u true) v e)
-
-  -- what leads somewhere is a track of the plan
-  pub leads-track : (u v : ℕ) → Leads p u v → u < length (p .tracks)
-  unfolding trackOf
-  leads-track u v l = elim (below? u (length (p .tracks))) [
-    | inl h ↦ h
-    | inr h ↦ absurd (l .0 (ap (λ t. t .kind) (List·getD-eq-default (p .tracks) noTrack h)))
-  ]
-
-  pub none-leads-is : (v n : ℕ) → Exactly (Is (noneLeads p v n)) ((u : ℕ) → u < n → Leads p u v → ⊥)
+  pub none-leads-is : (v n : ℕ) → Is (noneLeads p v n) ↔ ((u : ℕ) → u < n → Leads p u v → ⊥)
   unfolding noneLeads
   none-leads-is v n = (
-    λ e u h l. clash (leads-is u v .1 l) (not-t (leads p u v) (allBelow-at n (λ w. not (leads p w v)) e u h)),
-    λ f. allBelow-all n (λ w. not (leads p w v)) (λ u h. not-i (leads p u v) (fails (leads p u v) (λ e. f u h (leads-is u v .0 e)))),
+    λ e u h l. clash (leads-is p u v .1 l) (not-t (leads p u v) (allBelow-at n (λ w. not (leads p w v)) e u h)),
+    λ f. allBelow-all n (λ w. not (leads p w v)) (λ u h. not-i (leads p u v) (fails (leads p u v) (λ e. f u h (leads-is p u v .0 e)))),
   )
 
-  pub leg-is : (v u : ℕ) → Exactly (Is (isLeg p v u)) ((lie : Bool) × (u ≡ leg p v lie))
+  pub leg-is : (v u : ℕ) → Is (isLeg p v u) ↔ ((lie : Bool) × (u ≡ leg (trackOf p v) lie))
   unfolding isLeg
-  leg-is v u = (λ e. to (or-e (eqb (leg p v false) u) (eqb (leg p v true) u) e), λ w. from (w .0) (w .1))
+  leg-is v u = (λ e. to (or-e (eqb (leg (trackOf p v) false) u) (eqb (leg (trackOf p v) true) u) e), λ w. from (w .0) (w .1))
     where
-      to : Is (eqb (leg p v false) u) ⊎ Is (eqb (leg p v true) u) → (lie : Bool) × (u ≡ leg p v lie)
-      to (inl w) = (false, sym (eqb-true (leg p v false) u w))
-      to (inr w) = (true, sym (eqb-true (leg p v true) u w))
+      to : Is (eqb (leg (trackOf p v) false) u) ⊎ Is (eqb (leg (trackOf p v) true) u) → (lie : Bool) × (u ≡ leg (trackOf p v) lie)
+      to (inl w) = (false, sym (eqb-true (leg (trackOf p v) false) u w))
+      to (inr w) = (true, sym (eqb-true (leg (trackOf p v) true) u w))
 
-      from : (lie : Bool) → u ≡ leg p v lie → Is (eqb (leg p v false) u || eqb (leg p v true) u)
-      from false e = or-l (eqb (leg p v false) u) (eqb (leg p v true) u) (eq-eqb (leg p v false) u (sym e))
-      from true e = or-r (eqb (leg p v false) u) (eqb (leg p v true) u) (eq-eqb (leg p v true) u (sym e))
+      from : (lie : Bool) → u ≡ leg (trackOf p v) lie → Is (eqb (leg (trackOf p v) false) u || eqb (leg (trackOf p v) true) u)
+      from false e = or-l (eqb (leg (trackOf p v) false) u) (eqb (leg (trackOf p v) true) u) (eq-eqb (leg (trackOf p v) false) u (sym e))
+      from true e = or-r (eqb (leg (trackOf p v) false) u) (eqb (leg (trackOf p v) true) u) (eq-eqb (leg (trackOf p v) true) u (sym e))
 
 -- A list with no number twice.
 
 abbrev Apart : List ℕ → Type 0
 Apart l = (i j : ℕ) → i < j → j < length l → getD l i 0 ≢ getD l j 0
 
-pub different-is : (l : List ℕ) → Exactly (Is (different l)) (Apart l)
+pub different-is : (l : List ℕ) → Is (different l) ↔ Apart l
 unfolding different
 different-is [] = (λ e i j h g w. absurd (not-suc-le-zero g), λ f. refl)
 different-is (u ∷ l) = (to (different-is l .0), from (different-is l .1))
@@ -131,7 +80,7 @@ different-is (u ∷ l) = (to (different-is l .0), from (different-is l .1))
 abbrev Order : ℕ → ℕ → List ℕ → Type 0
 Order v x l = (i j : ℕ) → i < length l → j < length l → getD l i 0 ≡ x → getD l j 0 ≡ v → i < j
 
-pub later-is : (v x : ℕ) (l : List ℕ) → Exactly (Is (later v x l)) (In v l × Order v x l)
+pub later-is : (v x : ℕ) (l : List ℕ) → Is (later v x l) ↔ (In v l × Order v x l)
 unfolding later
 later-is v x [] = (λ e. clash {b = false} e refl, λ w. absurd (not-suc-le-zero (w .0 .1)))
 later-is v x (u ∷ l) = elim (split (eqb u v)) [
@@ -163,21 +112,9 @@ later-is v x (u ∷ l) = elim (split (eqb u v)) [
 
 -- What a route lists and gives back.
 module _ (p : Plan) (r : ℕ) where
-  pub wants-is : (x : ℕ) (lie : Bool) → Exactly (Is (wants p r x lie)) (In x (pointsOf p r lie))
+  pub wants-is : (x : ℕ) (lie : Bool) → Is (wants p r x lie) ↔ In x (pointsOf p r lie)
   unfolding wants
   wants-is x lie = (has-in x (pointsOf p r lie), in-has x (pointsOf p r lie))
-
-  pub listed-is : (x : ℕ) → Exactly (Is (listed p r x)) (Listed p r x)
-  unfolding listed
-  listed-is x = (λ e. to (or-e (wants p r x false) (wants p r x true) e), λ w. from (w .0) (w .1))
-    where
-      to : Is (wants p r x false) ⊎ Is (wants p r x true) → Listed p r x
-      to (inl w) = (false, wants-is x false .0 w)
-      to (inr w) = (true, wants-is x true .0 w)
-
-      from : (lie : Bool) → In x (pointsOf p r lie) → Is (wants p r x false || wants p r x true)
-      from false w = or-l (wants p r x false) (wants p r x true) (wants-is x false .1 w)
-      from true w = or-r (wants p r x false) (wants p r x true) (wants-is x true .1 w)
 
   -- listed for a lie by which its number, a way out or a leg, is v
   module _ (x v : ℕ) (number : Bool → ℕ) where
@@ -187,7 +124,7 @@ module _ (p : Plan) (r : ℕ) where
     abbrev By : Type 0
     By = (lie : Bool) × In x (pointsOf p r lie) × (number lie ≡ v)
 
-    by-lie : Exactly (Is (test false || test true)) By
+    by-lie : Is (test false || test true) ↔ By
     unfolding test
     by-lie = (λ e. to (or-e (test false) (test true) e), λ w. from (w .0) (w .1) (w .2))
       where
@@ -205,17 +142,10 @@ module _ (p : Plan) (r : ℕ) where
         from false w e = or-l (test false) (test true) (back false w e)
         from true w e = or-r (test false) (test true) (back true w e)
 
-  pub listed-out-is : (x v : ℕ) → Exactly (Is (listedOut p r x v)) ((lie : Bool) × In x (pointsOf p r lie) × (out p x lie ≡ v))
+  pub listed-out-is : (x v : ℕ) → Is (listedOut p r x v) ↔ ((lie : Bool) × In x (pointsOf p r lie) × (out (trackOf p x) lie ≡ v))
   unfolding listedOut wantsOut test
-  listed-out-is x v = by-lie x v (out p x)
+  listed-out-is x v = by-lie x v (out (trackOf p x))
 
-  pub listed-in-is : (x u : ℕ) → Exactly (Is (listedIn p r x u)) ((lie : Bool) × In x (pointsOf p r lie) × (leg p x lie ≡ u))
+  pub listed-in-is : (x u : ℕ) → Is (listedIn p r x u) ↔ ((lie : Bool) × In x (pointsOf p r lie) × (leg (trackOf p x) lie ≡ u))
   unfolding listedIn wantsIn test
-  listed-in-is x u = by-lie x u (leg p x)
-
-  pub released-is : (x : ℕ) → Exactly (Is (released p r x)) (Released p r x)
-  unfolding released releaseOf
-  released-is x = (
-    λ e. let w = anyOf-at (λ q. eqb (q .point) x) (routeOf p r .releases) noRelease e in (w .0, w .1, eqb-true _ x (w .2)),
-    λ w. anyOf-any (λ q. eqb (q .point) x) (routeOf p r .releases) (w .0) noRelease (w .1) (eq-eqb _ x (w .2)),
-  )
+  listed-in-is x u = by-lie x u (leg (trackOf p x))

@@ -1,12 +1,13 @@
 -- The rules by their numbers, each with the rows that it goes over: what the list says, said once more. So no sentence of the list can stand at
 -- another number, or go over other rows, unnoticed; and the safety proof names the rules that it uses.
+use mathlib.Core.Logic.{_↔_}
 use mathlib.Core.List.{List, [], _∷_}
 use Prim.Native.Nat.{ℕ, zero, suc, _<_}
 use native.Mathlib.Nat.{not-suc-le-zero}
 use lib.ListN.{length, getD}
 use Rattle.laws.specs.Lists.{All}
 use Rattle.plan.specs.Records.{Plan}
-use Rattle.rules.specs.Sentences.{Exactly, WaysDiffer, LegsLead, LedOnce, HomePlain, EntryPlaced, PathLinked, PathEnds, PathClear, PointsListed, PointsClear, ReleasesFit, EntryClear}
+use Rattle.rules.specs.Sentences.{WaysDiffer, LegsLead, LedOnce, HomePlain, EntryPlaced, PathLinked, PathEnds, PathClear, PointsListed, PointsClear, ReleasesFit, EntryClear}
 use Rattle.rules.specs.Verdict.{Rule, rules, noRule, ruleOf, Sound}
 
 pub record Twelve (p : Plan) : Type 0 where
@@ -32,7 +33,7 @@ kept [] w k = λ i h. absurd (not-suc-le-zero h)
 kept (rule ∷ l) w zero = w .0
 kept (rule ∷ l) w (suc k) = kept l (w .1) k
 
-pub numbered : (p : Plan) → Exactly (Sound p) (Twelve p)
+pub numbered : (p : Plan) → Sound p ↔ Twelve p
 unfolding ruleOf rules All
 numbered p = (
   λ s. record {

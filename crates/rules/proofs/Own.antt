@@ -4,9 +4,11 @@ use mathlib.Core.Bool.{Bool}
 use mathlib.Core.List.{List, [], _∷_}
 use Prim.Native.Nat.{ℕ}
 use Rattle.plan.specs.declared.Track.{Track}
+use Rattle.plan.specs.Kinds.{plain, exit, forks, legged, out, leg}
 use Rattle.plan.specs.Records.{Route, Entry, Plan, trackOf, homeOf, routeOf, entryOf}
-use Rattle.plan.specs.Layout.{isPlain, isExit, forks, legged, out, leg, leads, isHome}
-use Rattle.rules.specs.Rules.{wayOf, trackAt, pointsOf, wants, wantsOut, listedOut, wantsIn, listedIn, listed, released, noneLeads, entryPlaced, linkedAt, pathLinked, noHomeAt, ends, pathEnds, pathClear, facingListed, trailingListed, pointsListed, pointsClear, releaseFits, releasesFit, entryClear}
+use Rattle.plan.specs.Layout.{leads, isHome}
+use Rattle.plan.specs.Routes.{pointsOf, listed, released, wayOf, trackAt}
+use Rattle.rules.specs.Rules.{wants, wantsOut, listedOut, wantsIn, listedIn, noneLeads, entryPlaced, linkedAt, pathLinked, noHomeAt, ends, pathEnds, pathClear, facingListed, trailingListed, pointsListed, pointsClear, releaseFits, releasesFit, entryClear}
 
 alone : List Track → List ℕ → List Route → List Entry → Plan
 alone tracks signals routes entries = record { tracks = tracks; signals = signals; routes = routes; entries = entries }
@@ -16,11 +18,11 @@ module _ (p : Plan) (r : ℕ) where
   with-route = alone (p .tracks) (p .signals) (routeOf p r ∷ []) []
 
   linked : pathLinked p r ≡ pathLinked with-route 0
-  unfolding alone with-route pathLinked linkedAt trackAt wayOf leads isExit out forks trackOf homeOf routeOf
+  unfolding alone with-route pathLinked linkedAt trackAt wayOf leads exit out forks trackOf homeOf routeOf
   linked = refl
 
   ended : pathEnds p r ≡ pathEnds with-route 0
-  unfolding alone with-route pathEnds noHomeAt ends trackAt wayOf isExit isHome trackOf homeOf routeOf
+  unfolding alone with-route pathEnds noHomeAt ends trackAt wayOf exit isHome trackOf homeOf routeOf
   ended = refl
 
   cleared : pathClear p r ≡ pathClear with-route 0
@@ -44,7 +46,7 @@ module _ (p : Plan) (e : ℕ) where
   with-entry = alone (p .tracks) (p .signals) [] (entryOf p e ∷ [])
 
   placed : entryPlaced p e ≡ entryPlaced with-entry 0
-  unfolding alone with-entry entryPlaced noneLeads leads isPlain isHome isExit out forks trackOf entryOf
+  unfolding alone with-entry entryPlaced noneLeads leads plain isHome exit out forks trackOf entryOf
   placed = refl
 
   entry-cleared : entryClear p e ≡ entryClear with-entry 0

@@ -2,22 +2,21 @@
 -- broken and i its lowest row.
 use mathlib.Core.Path.{_≡_, refl, subst}
 use mathlib.Core.Bool.{false, not}
-use mathlib.Core.Logic.{inl, inr}
+use mathlib.Core.Logic.{inl, inr, _↔_}
 use mathlib.Core.List.{List, [], _∷_}
 use Prim.Native.Nat.{ℕ, zero, suc, _+_, _<_, _≤_}
 use native.Mathlib.Omega.{arith}
 use native.Mathlib.Nat.{not-suc-le-zero}
 use lib.ListN.{length, getD, List·getD-eq-default}
-use Rattle.laws.specs.Tests.{clash, same?, below?, not-t, not-f}
+use Rattle.laws.specs.Tests.{fails, clash, same?, below?, not-t, not-f}
 use Rattle.laws.specs.Lists.{All, anyOf, has}
 use Rattle.laws.specs.Search.{lowest, lowestFrom, lowest-at, lowest-none, unless, unless-ind}
 use Rattle.plan.specs.Records.{Plan, routeOf, entryOf}
+use Rattle.plan.specs.Routes.{pathLength}
 use Rattle.rules.specs.declared.Verdict.{Verdict}
 use Rattle.rules.specs.declared.Verdict.the-variants.{Accepted, Broken}
-use Rattle.rules.specs.Rules.{pathLength, pathClear, entryClear}
-use Rattle.rules.specs.Sentences.{Exactly}
+use Rattle.rules.specs.Rules.{pathClear, entryClear}
 use Rattle.rules.specs.Verdict.{Rule, rules, noRule, ruleOf, Sound, Breaks, lowestBroken, firstBroken, verdict, ruleNumber}
-use Rattle.rules.proofs.Notions.{fails}
 use Rattle.rules.proofs.Meaning.{path-clear-is, Tied, tied}
 
 -- What a search through a list of rules finds.
@@ -99,7 +98,7 @@ module _ (p : Plan) where
   none k i s b = b .fails (s .says k i (b .inside))
 
   -- a plan is accepted exactly when every rule says so of each of its rows
-  pub accepted-exactly : Exactly (verdict p ≡ Accepted) (Sound p)
+  pub accepted-exactly : (verdict p ≡ Accepted) ↔ Sound p
   accepted-exactly = (λ e. rw e at says, from (verdict p) says)
     where
       from : (v : Verdict) → Says v → Sound p → v ≡ Accepted
@@ -107,7 +106,7 @@ module _ (p : Plan) where
       from (Broken k i) w s = absurd (none k i s w)
 
   -- rule k row i is the verdict exactly when rule k is the lowest that is broken and i its lowest row
-  pub verdict-exactly : (k i : ℕ) → Exactly (verdict p ≡ Broken k i) (Breaks p k i)
+  pub verdict-exactly : (k i : ℕ) → (verdict p ≡ Broken k i) ↔ Breaks p k i
   verdict-exactly k i = (λ e. rw e at says, from (verdict p) says)
     where
       from : (v : Verdict) → Says v → Breaks p k i → v ≡ Broken k i

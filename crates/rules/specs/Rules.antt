@@ -2,88 +2,53 @@
 use Prim.Native.Nat.{ℕ, suc, _-_}
 use mathlib.Core.Bool.{Bool, true, false, not, cond, _&&_, _||_}
 use mathlib.Core.List.{List, [], _∷_}
-use lib.ListN.{length, getD}
+use lib.ListN.{length}
 use lib.Dec.{eqb, ltb}
-use Rattle.laws.specs.Lists.{allOf, anyOf, has}
+use Rattle.laws.specs.Lists.{allOf, has, different}
 use Rattle.laws.specs.Search.{allBelow}
-use Rattle.plan.specs.declared.Release.{Release}
-use Rattle.plan.specs.Records.{Plan, routeOf, entryOf, homeOf}
-use Rattle.plan.specs.Layout.{isPlain, isExit, forks, legged, out, leg, leads, isHome}
-
--- no number stands twice in a list
-unfoldable pub different : List ℕ → Bool
-different [] = true
-different (u ∷ l) = not (has u l) && different l
+use Rattle.plan.specs.Kinds.{plain, exit, forks, legged, out, leg}
+use Rattle.plan.specs.Records.{Plan, trackOf, homeOf, routeOf, entryOf}
+use Rattle.plan.specs.Layout.{leads, isHome}
+use Rattle.plan.specs.Routes.{pathLength, wayOf, trackAt, pointsOf, listed, released}
 
 -- v is on a path, and later than x where x is on it
 unfoldable pub later : ℕ → ℕ → List ℕ → Bool
 later v x [] = false
 later v x (u ∷ l) = cond (eqb u v) (not (has x (u ∷ l))) (later v x l)
 
-abbrev pub noRelease : Release
-noRelease = record { track = 0; point = 0 }
-
--- What a route says.
+-- What a route lists for a lie.
 module _ (p : Plan) (r : ℕ) where
-  -- how many tracks its path has
-  abbrev pub pathLength : ℕ
-  pathLength = length (routeOf p r .path)
-
-  -- its home, then its path
-  unfoldable pub wayOf : List ℕ
-  wayOf = homeOf p (routeOf p r .start) ∷ routeOf p r .path
-
-  -- the home at place 0, the path from place 1 on
-  unfoldable pub trackAt : ℕ → ℕ
-  trackAt i = getD wayOf i 0
-
-  -- the points that it lists normal (false) and reverse (true)
-  unfoldable pub pointsOf : Bool → List ℕ
-  pointsOf lie = cond lie (routeOf p r .reverse) (routeOf p r .normal)
-
-  -- it lists the point x for a lie; for some lie
+  -- it lists the point x for a lie
   unfoldable pub wants : ℕ → Bool → Bool
-  wants x lie = has x (pointsOf lie)
-
-  unfoldable pub listed : ℕ → Bool
-  listed x = wants x false || wants x true
+  wants x lie = has x (pointsOf p r lie)
 
   -- it lists x for a lie, and by that lie x leads to v; for some lie
   unfoldable pub wantsOut : ℕ → Bool → ℕ → Bool
-  wantsOut x lie v = wants x lie && eqb (out p x lie) v
+  wantsOut x lie v = wants x lie && eqb (out (trackOf p x) lie) v
 
   unfoldable pub listedOut : ℕ → ℕ → Bool
   listedOut x v = wantsOut x false v || wantsOut x true v
 
   -- it lists x for a lie, and by that lie x is entered from u; for some lie
   unfoldable pub wantsIn : ℕ → Bool → ℕ → Bool
-  wantsIn x lie u = wants x lie && eqb (leg p x lie) u
+  wantsIn x lie u = wants x lie && eqb (leg (trackOf p x) lie) u
 
   unfoldable pub listedIn : ℕ → ℕ → Bool
   listedIn x u = wantsIn x false u || wantsIn x true u
 
-  -- its releases, by their number in the list
-  unfoldable pub releaseOf : ℕ → Release
-  releaseOf k = getD (routeOf p r .releases) k noRelease
-
-  -- it gives x back; it gives x back when a train arrives on v
-  unfoldable pub released : ℕ → Bool
-  released x = anyOf (λ q. eqb (q .point) x) (routeOf p r .releases)
-
-  unfoldable pub frees : ℕ → ℕ → Bool
-  frees v x = anyOf (λ q. eqb (q .track) v && eqb (q .point) x) (routeOf p r .releases)
-
 module _ (p : Plan) where
   -- 1 (row: track). The two ways out of a facing point differ; so do the two legs of a trailing point.
   unfoldable pub waysDiffer : ℕ → Bool
-  waysDiffer u = not (forks p u && eqb (out p u false) (out p u true)) && not (legged p u && eqb (leg p u false) (leg p u true))
+  waysDiffer u =
+      not (forks (trackOf p u) && eqb (out (trackOf p u) false) (out (trackOf p u) true))
+      && not (legged (trackOf p u) && eqb (leg (trackOf p u) false) (leg (trackOf p u) true))
 
   -- 2 (track). Each leg of a trailing point leads to it.
   unfoldable pub legsLead : ℕ → Bool
-  legsLead v = not (legged p v) || leads p (leg p v false) v && leads p (leg p v true) v
+  legsLead v = not (legged (trackOf p v)) || leads p (leg (trackOf p v) false) v && leads p (leg (trackOf p v) true) v
 
   unfoldable pub isLeg : ℕ → ℕ → Bool
-  isLeg v u = eqb (leg p v false) u || eqb (leg p v true) u
+  isLeg v u = eqb (leg (trackOf p v) false) u || eqb (leg (trackOf p v) true) u
 
   -- no track below u leads to v
   unfoldable pub noneLeads : ℕ → ℕ → Bool
@@ -91,7 +56,7 @@ module _ (p : Plan) where
 
   -- u leads to v and must not: v is a trailing point and u is none of its legs, or another track leads to v already
   unfoldable pub forbidden : ℕ → ℕ → Bool
-  forbidden v u = leads p u v && cond (legged p v) (not (isLeg v u)) (not (noneLeads v u))
+  forbidden v u = leads p u v && cond (legged (trackOf p v)) (not (isLeg v u)) (not (noneLeads v u))
 
   -- 3 (track led to). No two tracks lead to the same track, except the two legs of a trailing point; nothing but its legs leads to a
   -- trailing point.
@@ -100,11 +65,11 @@ module _ (p : Plan) where
 
   -- 4 (signal). A home track is plain.
   unfoldable pub homePlain : ℕ → Bool
-  homePlain s = isPlain p (homeOf p s)
+  homePlain s = plain (trackOf p (homeOf p s))
 
   -- 5 (entry). An entry track is plain, is some signal's home, and nothing leads to it.
   unfoldable pub entryPlaced : ℕ → Bool
-  entryPlaced e = isPlain p (entryOf p e .track) && isHome p (entryOf p e .track) && noneLeads (entryOf p e .track) (length (p .tracks))
+  entryPlaced e = plain (trackOf p (entryOf p e .track)) && isHome p (entryOf p e .track) && noneLeads (entryOf p e .track) (length (p .tracks))
 
   -- the track at place i of a route leads to the following one
   unfoldable pub linkedAt : ℕ → ℕ → Bool
@@ -120,7 +85,7 @@ module _ (p : Plan) where
 
   -- a train may stop there: a home or an exit
   unfoldable pub ends : ℕ → Bool
-  ends u = isHome p u || isExit p u
+  ends u = isHome p u || exit (trackOf p u)
 
   -- 7 (route). No path track but the last is a home; the last is a home or an exit.
   unfoldable pub pathEnds : ℕ → Bool
@@ -132,11 +97,11 @@ module _ (p : Plan) where
 
   -- the path track at i, if it is a facing point, is listed by the way out taken, and there is one
   unfoldable pub facingListed : ℕ → ℕ → Bool
-  facingListed r i = not (forks p (trackAt p r (suc i))) || ltb (suc i) (pathLength p r) && listedOut p r (trackAt p r (suc i)) (trackAt p r (suc (suc i)))
+  facingListed r i = not (forks (trackOf p (trackAt p r (suc i)))) || ltb (suc i) (pathLength p r) && listedOut p r (trackAt p r (suc i)) (trackAt p r (suc (suc i)))
 
   -- if it is a trailing point, it is listed by the leg it is entered from
   unfoldable pub trailingListed : ℕ → ℕ → Bool
-  trailingListed r i = not (legged p (trackAt p r (suc i))) || listedIn p r (trackAt p r (suc i)) (trackAt p r i)
+  trailingListed r i = not (legged (trackOf p (trackAt p r (suc i)))) || listedIn p r (trackAt p r (suc i)) (trackAt p r i)
 
   -- 9 (route). Each facing point on the path is listed normal or reverse by the way out taken, each trailing point by the leg it is
   -- entered from; no point is in both lists.
@@ -152,7 +117,7 @@ module _ (p : Plan) where
 
   -- x is a listed point, and v is on the path, later than x where x is on it
   unfoldable pub releaseFits : ℕ → ℕ → ℕ → Bool
-  releaseFits r v x = listed p r x && later v x (routeOf p r .path)
+  releaseFits r v x = listed (routeOf p r .normal) (routeOf p r .reverse) x && later v x (routeOf p r .path)
 
   -- 11 (route). The release list's points are exactly the listed points; each release track is on the path, and later than its point
   -- where the point is on the path.

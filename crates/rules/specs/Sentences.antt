@@ -2,69 +2,36 @@
 use Prim.Native.Nat.{ℕ, suc, _<_, _≤_}
 use mathlib.Core.Path.{_≡_}
 use mathlib.Core.Bool.{Bool, true, false, not}
-use mathlib.Core.Logic.{_≢_, _⊎_}
+use mathlib.Core.Logic.{_≢_, _⊎_, _↔_}
 use lib.ListN.{length}
 use Rattle.laws.specs.Lists.{In}
-use Rattle.plan.specs.Records.{Plan, plain, facing, trailing, exit, trackOf, homeOf, routeOf, entryOf}
-use Rattle.plan.specs.Layout.{out, leg}
-use Rattle.rules.specs.Rules.{pathLength, trackAt, pointsOf, releaseOf}
-
--- each of two statements gives the other
-abbrev pub Exactly : Type 0 → Type 0 → Type 0
-Exactly A B = (A → B) × (B → A)
-
--- What the kinds mean. A lie is normal (false) or reverse (true).
-module _ (p : Plan) where
-  abbrev pub Plain : ℕ → Type 0
-  Plain u = trackOf p u .kind ≡ plain
-
-  abbrev pub Exit : ℕ → Type 0
-  Exit u = trackOf p u .kind ≡ exit
-
-  abbrev pub Facing : ℕ → Type 0
-  Facing u = trackOf p u .kind ≡ facing
-
-  abbrev pub Trailing : ℕ → Type 0
-  Trailing v = trackOf p v .kind ≡ trailing
-
-  -- a track leads to its next, or to either way out of a facing point; an exit leads nowhere
-  abbrev pub Leads : ℕ → ℕ → Type 0
-  Leads u v = (Exit u → ⊥) × ((lie : Bool) × (out p u lie ≡ v))
-
-  -- some signal's home
-  abbrev pub Home : ℕ → Type 0
-  Home u = (s : ℕ) × (s < length (p .signals)) × (homeOf p s ≡ u)
-
--- What a route lists, and what it gives back.
-module _ (p : Plan) (r : ℕ) where
-  abbrev pub Listed : ℕ → Type 0
-  Listed x = (lie : Bool) × In x (pointsOf p r lie)
-
-  abbrev pub Released : ℕ → Type 0
-  Released x = (k : ℕ) × (k < length (routeOf p r .releases)) × (releaseOf p r k .point ≡ x)
+use Rattle.plan.specs.Kinds.{out, leg, Plain, Exit, Forks, Legged}
+use Rattle.plan.specs.Records.{Plan, trackOf, homeOf, routeOf, entryOf}
+use Rattle.plan.specs.Layout.{Leads, Home}
+use Rattle.plan.specs.Routes.{pointsOf, releaseOf, Listed, Released, pathLength, trackAt}
 
 -- 1 (row: track). The two ways out of a facing point differ; so do the two legs of a trailing point.
 pub record WaysDiffer (p : Plan) (u : ℕ) : Type 0 where
-  pub ways : Facing p u → out p u false ≢ out p u true
-  pub legs : Trailing p u → leg p u false ≢ leg p u true
+  pub ways : Forks (trackOf p u) → out (trackOf p u) false ≢ out (trackOf p u) true
+  pub legs : Legged (trackOf p u) → leg (trackOf p u) false ≢ leg (trackOf p u) true
 
 -- 2 (track). Each leg of a trailing point leads to it.
 abbrev pub LegsLead : Plan → ℕ → Type 0
-LegsLead p v = Trailing p v → (lie : Bool) → Leads p (leg p v lie) v
+LegsLead p v = Legged (trackOf p v) → (lie : Bool) → Leads p (leg (trackOf p v) lie) v
 
 -- 3 (track led to). No two tracks lead to the same track, except the two legs of a trailing point; nothing but its legs leads to a trailing
 -- point.
 pub record LedOnce (p : Plan) (v : ℕ) : Type 0 where
-  pub two : (u w : ℕ) → Leads p u v → Leads p w v → u ≢ w → Trailing p v × ((lie : Bool) × (u ≡ leg p v lie) × (w ≡ leg p v (not lie)))
-  pub legs : Trailing p v → (u : ℕ) → Leads p u v → (lie : Bool) × (u ≡ leg p v lie)
+  pub two : (u w : ℕ) → Leads p u v → Leads p w v → u ≢ w → Legged (trackOf p v) × ((lie : Bool) × (u ≡ leg (trackOf p v) lie) × (w ≡ leg (trackOf p v) (not lie)))
+  pub legs : Legged (trackOf p v) → (u : ℕ) → Leads p u v → (lie : Bool) × (u ≡ leg (trackOf p v) lie)
 
 -- 4 (signal). A home track is plain.
 abbrev pub HomePlain : Plan → ℕ → Type 0
-HomePlain p s = Plain p (homeOf p s)
+HomePlain p s = Plain (trackOf p (homeOf p s))
 
 -- 5 (entry). An entry track is plain, is some signal's home, and nothing leads to it.
 pub record EntryPlaced (p : Plan) (e : ℕ) : Type 0 where
-  pub is-plain : Plain p (entryOf p e .track)
+  pub is-plain : Plain (trackOf p (entryOf p e .track))
   pub home : Home p (entryOf p e .track)
   pub nothing : (u : ℕ) → Leads p u (entryOf p e .track) → ⊥
 
@@ -76,7 +43,7 @@ pub record PathLinked (p : Plan) (r : ℕ) : Type 0 where
 -- 7 (route). No path track but the last is a home; the last is a home or an exit.
 pub record PathEnds (p : Plan) (r : ℕ) : Type 0 where
   pub middle : (i : ℕ) → suc i < pathLength p r → Home p (trackAt p r (suc i)) → ⊥
-  pub last : Home p (trackAt p r (pathLength p r)) ⊎ Exit p (trackAt p r (pathLength p r))
+  pub last : Home p (trackAt p r (pathLength p r)) ⊎ Exit (trackOf p (trackAt p r (pathLength p r)))
 
 -- 8 (route). The clear list holds the whole path.
 abbrev pub PathClear : Plan → ℕ → Type 0
@@ -85,10 +52,10 @@ PathClear p r = (u : ℕ) → In u (routeOf p r .path) → In u (routeOf p r .cl
 -- 9 (route). Each facing point on the path is listed normal or reverse by the way out taken, each trailing point by the leg it is entered from;
 -- no point is in both lists.
 pub record PointsListed (p : Plan) (r : ℕ) : Type 0 where
-  pub ways : (i : ℕ) → i < pathLength p r → Facing p (trackAt p r (suc i))
-      → (lie : Bool) × In (trackAt p r (suc i)) (pointsOf p r lie) × (suc i < pathLength p r) × (out p (trackAt p r (suc i)) lie ≡ trackAt p r (suc (suc i)))
-  pub legs : (i : ℕ) → i < pathLength p r → Trailing p (trackAt p r (suc i))
-      → (lie : Bool) × In (trackAt p r (suc i)) (pointsOf p r lie) × (leg p (trackAt p r (suc i)) lie ≡ trackAt p r i)
+  pub ways : (i : ℕ) → i < pathLength p r → Forks (trackOf p (trackAt p r (suc i)))
+      → (lie : Bool) × In (trackAt p r (suc i)) (pointsOf p r lie) × (suc i < pathLength p r) × (out (trackOf p (trackAt p r (suc i))) lie ≡ trackAt p r (suc (suc i)))
+  pub legs : (i : ℕ) → i < pathLength p r → Legged (trackOf p (trackAt p r (suc i)))
+      → (lie : Bool) × In (trackAt p r (suc i)) (pointsOf p r lie) × (leg (trackOf p (trackAt p r (suc i))) lie ≡ trackAt p r i)
   pub apart : (x : ℕ) → In x (pointsOf p r false) → In x (pointsOf p r true) → ⊥
 
 -- 10 (route). Every listed point is in the clear list.
@@ -98,7 +65,7 @@ PointsClear p r = (x : ℕ) → Listed p r x → In x (routeOf p r .clear)
 -- 11 (route). The release list's points are exactly the listed points; each release track is on the path, and later than its point where the
 -- point is on the path.
 pub record ReleasesFit (p : Plan) (r : ℕ) : Type 0 where
-  pub points : (x : ℕ) → Exactly (Released p r x) (Listed p r x)
+  pub points : (x : ℕ) → Released p r x ↔ Listed p r x
   pub on-path : (k : ℕ) → k < length (routeOf p r .releases) → In (releaseOf p r k .track) (routeOf p r .path)
   pub after : (k i j : ℕ) → k < length (routeOf p r .releases) → i < pathLength p r → j < pathLength p r
       → trackAt p r (suc i) ≡ releaseOf p r k .point → trackAt p r (suc j) ≡ releaseOf p r k .track → i < j

@@ -8,12 +8,12 @@ use Rattle.plan.specs.Records.{Plan}
 use Rattle.plan.specs.File.{Readable}
 use Rattle.plan.specs.Image.{planOf}
 use Rattle.plan.proofs.Shown.{plan-shown}
-use Rattle.scan.specs.declared.Form.{Form}
-use Rattle.scan.specs.declared.Seen.{Seen}
-use Rattle.scan.specs.declared.Seen.the-variants.{Next, Refused}
-use Rattle.scan.specs.Reading.{Got, form, got, parse, seen}
-use Rattle.scan.proofs.Meaning.{reads-readable}
-use Rattle.reading.specs.Storing.{afterReading}
+use Rattle.reading.specs.declared.Form.{Form}
+use Rattle.reading.specs.declared.Seen.{Seen}
+use Rattle.reading.specs.declared.Seen.the-variants.{Next, Refused}
+use Rattle.reading.specs.Reading.{Got, form, got, parse, seen}
+use Rattle.reading.proofs.Meaning.{reads-readable}
+use Rattle.loading.specs.Storing.{afterReading}
 use Rattle.rules.specs.declared.Verdict.{Verdict}
 use Rattle.rules.specs.Verdict.{verdict}
 use Rattle.state.specs.declared.State.{State}

@@ -6,8 +6,8 @@ use native.Mathlib.Omega.{arith}
 use lib.ListN.{length}
 use borrow.Author.Tests.{lt-ltb, le-ltb}
 use Rattle.plan.specs.Image.{planOf}
-use Rattle.scan.specs.declared.Form.{Form}
-use Rattle.scan.specs.Reading.{form, parse}
+use Rattle.reading.specs.declared.Form.{Form}
+use Rattle.reading.specs.Reading.{form, parse}
 use Rattle.rules.specs.declared.Verdict.{Verdict}
 use Rattle.rules.specs.Verdict.{verdict}
 use Rattle.lines.specs.Lines.{formLine, verdictLine, lineMost}

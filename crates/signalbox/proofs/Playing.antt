@@ -15,8 +15,8 @@ use Rattle.laws.specs.Lists.{joined}
 use Rattle.plan.specs.Records.{Plan}
 use Rattle.plan.specs.File.{Readable}
 use Rattle.plan.specs.Image.{planOf}
-use Rattle.scan.specs.declared.Form.{Form}
-use Rattle.scan.specs.Reading.{form, parse}
+use Rattle.reading.specs.declared.Form.{Form}
+use Rattle.reading.specs.Reading.{form, parse}
 use Rattle.state.specs.declared.State.{State}
 use Rattle.state.specs.State.{wellFormed}
 use Rattle.state.proofs.Formed.{formed, passes}

@@ -5,7 +5,7 @@ use mathlib.Core.List.{List, [], _∷_, _++_}
 use Prim.Native.Nat.{ℕ}
 use Rattle.plan.specs.Records.{Plan}
 use Rattle.plan.specs.File.{Readable}
-use Rattle.scan.specs.Reading.{got}
+use Rattle.reading.specs.Reading.{got}
 use Rattle.rules.proofs.Verdicts.{accepted-exactly}
 use Rattle.state.specs.declared.State.{State}
 use Rattle.state.specs.State.{fresh, wellFormed}

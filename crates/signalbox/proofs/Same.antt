@@ -8,7 +8,7 @@ use native.Mathlib.Nat.{zero-add}
 use lib.ListN.{length}
 use Rattle.laws.specs.Lists.{joined}
 use Rattle.plan.specs.Records.{Plan}
-use Rattle.scan.specs.Reading.{Got, form, got}
+use Rattle.reading.specs.Reading.{Got, form, got}
 use Rattle.state.specs.declared.State.{State}
 use Rattle.state.specs.State.{wellFormed}
 use Rattle.events.specs.declared.Event.{Event}

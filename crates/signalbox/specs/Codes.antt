@@ -3,8 +3,8 @@
 use Prim.Native.Nat.{ℕ, _+_, _*_, _%_}
 use mathlib.Core.List.{List, [], _∷_}
 use Rattle.plan.specs.Records.{Plan}
-use Rattle.scan.specs.declared.Form.{Form}
-use Rattle.scan.specs.Reading.{Got, form, got, formNumber, formOffset}
+use Rattle.reading.specs.declared.Form.{Form}
+use Rattle.reading.specs.Reading.{Got, form, got, formNumber, formOffset}
 use Rattle.rules.specs.declared.Verdict.{Verdict}
 use Rattle.rules.specs.Verdict.{verdict, ruleNumber, ruleRow}
 use Rattle.events.specs.declared.Answer.{Answer}

@@ -8,7 +8,7 @@ use lib.ListN.{length, take}
 use lib.Dec.{ltb}
 use Rattle.laws.specs.Lists.{joined}
 use Rattle.plan.specs.Records.{Plan}
-use Rattle.scan.specs.Reading.{Got, form, got}
+use Rattle.reading.specs.Reading.{Got, form, got}
 use Rattle.rules.specs.declared.Verdict.the-variants.{Accepted}
 use Rattle.rules.specs.Verdict.{verdict}
 use Rattle.state.specs.declared.State.{State}

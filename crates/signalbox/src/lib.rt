@@ -13,17 +13,17 @@ use lines::LINE;
 use lines::answer_line;
 use lines::form_line;
 use lines::verdict_line;
+use loading::load;
 use plan::limits::IMAGE;
 use plan::limits::TRACKS;
 use play::play;
-use reading::read;
-use scan::Seen;
+use reading::Seen;
 use state::cells::CELLS;
 use state::form::well_formed;
 ghost use mathlib.Core.Path.{_≡_};
 ghost use Prim.Native.Nat.{min};
 ghost use lib.ListN.{length};
-ghost use Rattle.scan.specs.Reading.{parse};
+ghost use Rattle.reading.specs.Reading.{parse};
 ghost use Rattle.state.specs.Cells.{stateIn};
 ghost use Rattle.events.specs.Events.{eventsOf, firstEvent};
 ghost use Rattle.lines.specs.Lines.{answerLine};
@@ -37,7 +37,7 @@ pub extern "C" fn signalbox_read(file: &[u8]) -> u64
     ensures { λ r. ⌜ r ≡ readCode (parse (now (file .entry))) ⌝ }
 {
     let mut image = [0u8; IMAGE];
-    let seen = read(file, &mut image);
+    let seen = load(file, &mut image);
     if let Seen::Refused(form) = seen {
         return form_code(form);
     }
@@ -50,7 +50,7 @@ pub extern "C" fn signalbox_check(file: &[u8]) -> u64
     ensures { λ r. ⌜ r ≡ checkCode (parse (now (file .entry))) ⌝ }
 {
     let mut image = [0u8; IMAGE];
-    let seen = read(file, &mut image);
+    let seen = load(file, &mut image);
     if let Seen::Refused(form) = seen {
         return form_code(form);
     }
@@ -68,7 +68,7 @@ pub extern "C" fn signalbox_step(
     ensures { λ r. ⌜ (r ≡ stepCode (parse (now (file .entry))) (stateIn (now (cells .entry)) (now (holds .entry))) (firstEvent (now (event .entry)))) × (stateIn (now (cells .exit)) (now (holds .exit)) ≡ stepState (parse (now (file .entry))) (stateIn (now (cells .entry)) (now (holds .entry))) (firstEvent (now (event .entry)))) ⌝ }
 {
     let mut image = [0u8; IMAGE];
-    let seen = read(file, &mut image);
+    let seen = load(file, &mut image);
     if let Seen::Refused(form) = seen {
         return form_code(form);
     }
@@ -92,7 +92,7 @@ pub extern "C" fn signalbox_run(
     ensures { λ r. ⌜ Played codeOf (parse (now (file .entry))) (stateIn (now (cells .entry)) (now (holds .entry))) (playable (parse (now (file .entry))) (stateIn (now (cells .entry)) (now (holds .entry))) (runMost (now (events .entry)) (length (now (answers .entry)))) (now (events .entry))) (now (answers .entry)) r (stateIn (now (cells .exit)) (now (holds .exit))) (now (answers .exit)) ⌝ }
 {
     let mut image = [0u8; IMAGE];
-    let seen = read(file, &mut image);
+    let seen = load(file, &mut image);
     let Seen::Next(_) = seen else {
         return 0;
     };
@@ -119,7 +119,7 @@ pub extern "C" fn signalbox_open(file: &[u8], out: &mut [u8]) -> usize
         return 0;
     }
     let mut image = [0u8; IMAGE];
-    let seen = read(file, &mut image);
+    let seen = load(file, &mut image);
     if let Seen::Refused(form) = seen {
         return form_line(form, out, 0);
     }
@@ -139,7 +139,7 @@ pub extern "C" fn signalbox_print(
     ensures { λ r. ⌜ Played answerLine (parse (now (file .entry))) (stateIn (now (cells .entry)) (now (holds .entry))) (playable (parse (now (file .entry))) (stateIn (now (cells .entry)) (now (holds .entry))) (printMost (length (now (out .entry)))) (now (events .entry))) (now (out .entry)) r (stateIn (now (cells .exit)) (now (holds .exit))) (now (out .exit)) ⌝ }
 {
     let mut image = [0u8; IMAGE];
-    let seen = read(file, &mut image);
+    let seen = load(file, &mut image);
     let Seen::Next(_) = seen else {
         return 0;
     };

@@ -1,23 +1,24 @@
 -- The test of a well-formed state is true exactly when the document's sentences hold.
 use mathlib.Core.Path.{_≡_, refl, sym, ap, _∙_}
-use mathlib.Core.Bool.{Bool, true, false, not, _&&_, _||_}
+use mathlib.Core.Bool.{Bool, true, false, not, _&&_}
 use mathlib.Core.Logic.{_≢_, _⊎_, inl, inr}
 use mathlib.Core.List.{List, [], _∷_}
-use Prim.Native.Nat.{ℕ, zero, suc, _+_, _-_, _<_, _≤_}
+use Prim.Native.Nat.{ℕ, zero, suc, _+_, _<_, _≤_, _-_}
 use native.Mathlib.Omega.{arith}
 use lib.ListN.{length, getD, drop, length-drop, replicate, length-replicate, getD-replicate}
 use lib.Seq.{getD-drop}
 use lib.Dec.{eqb, ltb}
-use borrow.Author.Tests.{eqb-true, eqb-false, eq-eqb, ne-eqb, lt-ltb, ltb-true}
+use borrow.Author.Tests.{eqb-true, eq-eqb, ne-eqb, lt-ltb, ltb-true}
 use Rattle.laws.specs.Tests.{Is, split, clash, below?, same?, and-l, and-r, and-i, or-e, or-l, or-r, not-t, not-f, not-i}
-use Rattle.laws.specs.Lists.{In, has, has-in, in-has, allOf, allOf-at, allOf-all}
-use Rattle.laws.specs.Search.{allBelow, allBelow-at, allBelow-all}
+use Rattle.laws.specs.Lists.{has, has-in, in-has, allOf, allOf-at, allOf-all, emptyFrom}
+use Rattle.laws.specs.Search.{allBelow-at, allBelow-all}
 use Rattle.laws.specs.Sets.{member, member-empty}
 use Rattle.plan.specs.Limits.{mostTracks, mostSignals}
-use Rattle.plan.specs.Records.{Plan, isPoint, routeOf}
+use Rattle.plan.specs.Kinds.{isPoint}
+use Rattle.plan.specs.Records.{Plan, routeOf}
 use Rattle.state.specs.declared.State.{State}
 use Rattle.state.specs.Holds.{empty, within}
-use Rattle.state.specs.State.{noTrain, normalLie, reverseLie, red, greenFor, trainAt, lieAt, heldBy, shownAt, HasTrain, Holds, fresh, again, once, emptyFrom, pointOr, pointsOnly, greenNames, namedAt, greensName, liesKnown, wellFormed, WellFormed}
+use Rattle.state.specs.State.{normalLie, reverseLie, greenFor, trainAt, lieAt, heldBy, shownAt, fresh, again, once, pointOr, pointsOnly, greenNames, namedAt, greensName, liesKnown, wellFormed, WellFormed}
 use Rattle.state.proofs.Holds.{within-beyond, beyond-within, only-empty, member-some}
 
 -- Past the end of a list there is nothing.

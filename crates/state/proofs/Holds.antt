@@ -1,15 +1,15 @@
 -- The laws of the hold set: what it has after a hold was added or dropped, and when it is empty.
-use mathlib.Core.Path.{_≡_, refl, sym, _∙_}
-use mathlib.Core.Bool.{Bool, true, false, cond}
-use mathlib.Core.Logic.{_≢_, inl, inr}
-use Prim.Native.Nat.{ℕ, zero, suc, _+_, _*_, _/_, _%_, _^_, _<_, _≤_}
+use mathlib.Core.Path.{_≡_}
+use mathlib.Core.Bool.{true, false}
+use mathlib.Core.Logic.{_≢_, inl, inr, _↔_}
+use Prim.Native.Nat.{ℕ, zero, suc, _/_, _%_, _^_, _<_, _≤_}
 use native.Mathlib.Omega.{arith}
 use native.Mathlib.Nat.{div-eq-of-lt, div-lt-iff-lt-mul}
-use lib.Dec.{eqb, ltb}
+use lib.Dec.{eqb}
 use lib.Pow.{pow-pos}
 use borrow.Author.Tests.{eqb-true, eqb-false, eq-eqb, ne-eqb, lt-ltb, le-ltb, ltb-true}
 use Rattle.laws.specs.Tests.{Is, split, clash, below?}
-use Rattle.laws.specs.Sets.{member, including, excluding, member-including, member-including-other, including-including, member-empty, no-member}
+use Rattle.laws.specs.Sets.{member, including, member-including, member-including-other, including-including, member-empty, no-member}
 use Rattle.state.specs.Holds.{room, adding, empty, within}
 
 -- A set below 2 to the n has nothing from n on, and only such a set.
@@ -88,13 +88,9 @@ adding-adding set route = elim (below? route room) [
 
 -- Empty.
 
-pub empty-none : (set : ℕ) → Is (empty set) → (route : ℕ) → member set route ≡ false
+pub empty-is : (set : ℕ) → Is (empty set) ↔ ((route : ℕ) → member set route ≡ false)
 unfolding empty
-empty-none set e route = let z = eqb-true set 0 e in rw z (member-empty route)
-
-pub none-empty : (set : ℕ) → ((route : ℕ) → member set route ≡ false) → Is (empty set)
-unfolding empty
-none-empty set h = eq-eqb set 0 (only-empty set h)
+empty-is set = (λ e route. let z = eqb-true set 0 e in rw z (member-empty route), λ h. eq-eqb set 0 (only-empty set h))
 
 -- The code's shift.
 pub within-shifted : (n set : ℕ) → eqb (set / 2 ^ n) 0 ≡ within n set

@@ -4,7 +4,7 @@ use mathlib.Core.Path.{_≡_, refl, sym, ap, _∙_}
 use mathlib.Core.List.{List, _++_}
 use Prim.Native.Nat.{ℕ, _+_, _≤_}
 use native.Mathlib.Omega.{arith}
-use lib.ListN.{length, take, drop, replicate, take-append-drop, length-drop}
+use lib.ListN.{length, drop, replicate, take-append-drop, length-drop}
 use lib.Seq.{take-all, drop-drop}
 use Rattle.plan.specs.Limits.{mostTracks, mostSignals}
 use Rattle.state.specs.declared.State.{State}

@@ -1,20 +1,17 @@
 -- What the code's tests of one cell say, test by test.
-use mathlib.Core.Path.{_≡_, refl, sym, ap, _∙_}
-use mathlib.Core.Bool.{Bool, true, false, not, cond, _&&_, _||_}
+use mathlib.Core.Path.{_≡_, ap, _∙_}
+use mathlib.Core.Bool.{true, false, _&&_}
 use mathlib.Core.Logic.{_≢_}
 use mathlib.Core.List.{List}
-use Prim.Native.Nat.{ℕ, zero, suc, _+_, _-_, _<_, _≤_}
+use Prim.Native.Nat.{ℕ, suc, _+_, _<_, _≤_, _-_}
 use native.Mathlib.Omega.{arith}
-use lib.ListN.{length, getD, take, drop, length-take, length-drop}
+use lib.ListN.{length, getD, take, drop, length-drop}
 use lib.Seq.{take-all}
 use lib.Dec.{eqb, ltb}
 use borrow.Author.Tests.{eq-eqb, ne-eqb, lt-ltb, le-ltb}
 use Rattle.laws.specs.Lists.{has}
-use Rattle.plan.specs.declared.Track.{Track}
-use Rattle.plan.specs.Limits.{mostSignals, signalsAt}
-use Rattle.plan.specs.Image.{planOf, signalsIn, listIn, countIn}
-use Rattle.plan.proofs.View.{count-most}
-use Rattle.plan.specs.Records.{Plan, facing, trailing, isPoint, trackOf, routeOf}
+use Rattle.plan.specs.Kinds.{isPoint}
+use Rattle.plan.specs.Records.{Plan, routeOf}
 use Rattle.state.specs.Holds.{empty}
 use Rattle.state.specs.State.{again, pointOr, greenNames, namedAt}
 
@@ -61,8 +58,3 @@ module _ (p : Plan) (s shown : ℕ) where
 pub named-shown : (p : Plan) (signals : List ℕ) (s shown : ℕ) → shown ≡ getD signals s 0 → namedAt p signals s ≡ greenNames p s shown
 unfolding namedAt
 named-shown p signals s shown e = rw e
-
--- The plan in memory has no more signals than there may be.
-pub signals-most : (image : List ℕ) → length (planOf image .signals) ≤ mostSignals
-unfolding planOf signalsIn listIn
-signals-most image = rw (length-take (countIn image signalsAt mostSignals) (drop (signalsAt + 1) image)) (omega (arith, count-most image signalsAt mostSignals))

@@ -7,11 +7,12 @@ use Prim.Native.Nat.{ℕ, zero, suc, _+_, _<_, _≤_}
 use lib.ListN.{length, getD, drop, replicate}
 use lib.Dec.{eqb, ltb}
 use Rattle.laws.specs.Tests.{Is}
-use Rattle.laws.specs.Lists.{has, allOf}
+use Rattle.laws.specs.Lists.{has, allOf, emptyFrom}
 use Rattle.laws.specs.Search.{allBelow}
 use Rattle.laws.specs.Sets.{member}
 use Rattle.plan.specs.Limits.{mostTracks, mostSignals}
-use Rattle.plan.specs.Records.{Plan, isPoint, routeOf}
+use Rattle.plan.specs.Kinds.{isPoint}
+use Rattle.plan.specs.Records.{Plan, routeOf}
 use Rattle.state.specs.declared.State.{State}
 use Rattle.state.specs.Holds.{empty, within}
 
@@ -68,10 +69,6 @@ again trains u = not (eqb (getD trains u noTrain) noTrain) && has (getD trains u
 
 unfoldable pub once : List ℕ → Bool
 once trains = allBelow (length trains) (λ u. not (again trains u))
-
--- everything from a count on is empty
-unfoldable pub emptyFrom : ℕ → List ℕ → Bool
-emptyFrom n cells = allOf (λ x. eqb x 0) (drop n cells)
 
 -- only points are held or reverse
 unfoldable pub pointOr : Plan → List ℕ → List ℕ → ℕ → Bool

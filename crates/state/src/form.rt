@@ -6,24 +6,25 @@ use crate::cells::lies_of;
 use crate::cells::shown_at;
 use crate::cells::signals_of;
 use crate::cells::trains_of;
-use crate::lists::all_within;
-use crate::lists::empty_from;
-use crate::lists::lies_known;
-use crate::lists::none_from;
-use layout::has;
+use lists::all_below;
+use lists::empty_from;
+use lists::has;
+use lists::none_from;
+use lists::wide;
 use plan::image::is_point;
 use plan::image::routes;
 use plan::image::signals as signal_count;
 use plan::image::start_of;
 use plan::image::tracks;
-use plan::image::wide;
 use plan::limits::IMAGE;
 use plan::limits::TRACKS;
 ghost use mathlib.Core.Path.{_≡_};
 ghost use Prim.Native.Nat.{_<_};
 ghost use lib.ListN.{length};
+ghost use Rattle.laws.specs.Lists.{allOf};
 ghost use Rattle.plan.specs.Limits.{mostTracks};
 ghost use Rattle.plan.specs.Image.{planOf};
+ghost use Rattle.state.specs.Holds.{within};
 ghost use Rattle.state.specs.State.{again, once, pointOr, pointsOnly, greenNames, greensName, wellFormed};
 ghost use Rattle.state.specs.Cells.{liesIn, signalsIn, stateIn};
 
@@ -50,6 +51,21 @@ fn once(trains: &[u8]) -> bool
             return false;
         }
         u += 1;
+    }
+    true
+}
+
+// No set has a route from a number on.
+fn all_within(routes: usize, holds: &[u64]) -> bool
+    ensures { λ r. ⌜ r ≡ allOf (within routes) (now (holds .entry)) ⌝ }
+{
+    let mut i = 0;
+    while i < holds.len() {
+        let holders = HoldSet { routes: holds[i] };
+        if !holders.within(routes) {
+            return false;
+        }
+        i += 1;
     }
     true
 }
@@ -147,5 +163,5 @@ pub fn well_formed(image: &[u8; IMAGE], cells: &[u8; CELLS], holds: &[u64; TRACK
     if !greens_name(image, cells) {
         return false;
     }
-    lies_known(lies)
+    all_below(lies, 2)
 }

@@ -1,12 +1,10 @@
 // The state: trains, lies, holds and signals.
 pub mod cells;
 pub mod form;
-pub mod lists;
 
 use plan::limits::SIGNALS;
 use plan::limits::TRACKS;
 ghost use mathlib.Core.Path.{_≡_};
-ghost use mathlib.Core.Bool.{Bool};
 ghost use Rattle.laws.specs.Sets.{member, excluding};
 ghost use Rattle.state.specs.Holds.{adding, empty, within};
 
@@ -28,12 +26,6 @@ pub struct HoldSet {
 const ROOM: usize = 64;
 
 impl HoldSet {
-    pub fn none() -> HoldSet
-        ensures { λ r. ⌜ r .routes ≡ 0 ⌝ }
-    {
-        HoldSet { routes: 0 }
-    }
-
     pub fn has(self, route: usize) -> bool
         ensures { λ r. ⌜ r ≡ member (self .routes) route ⌝ }
     {

@@ -1,7 +1,7 @@
 //! Plans, states and events in words, for the person who has to find the mistake.
 
 use super::trouble::Work;
-use crate::model::plan::{Plan, Track};
+use crate::model::plan::{Plan, Track, MOST_TRACKS};
 use crate::model::reading::read;
 use crate::model::state::Arrays;
 use std::fmt::Write;
@@ -64,7 +64,7 @@ fn track_in_words(track: &Track) -> String {
 /// All that is not fresh.
 pub fn state(arrays: &Arrays) -> String {
     let mut words = Vec::new();
-    for track in 0..64 {
+    for track in 0..MOST_TRACKS {
         if arrays.trains[track] != 0 {
             words.push(format!("train {} on {track}", arrays.trains[track]));
         }
@@ -88,7 +88,9 @@ pub fn state(arrays: &Arrays) -> String {
 }
 
 fn routes(set: u64) -> Vec<usize> {
-    (0..64).filter(|route| set >> route & 1 == 1).collect()
+    (0..u64::BITS as usize)
+        .filter(|route| set >> route & 1 == 1)
+        .collect()
 }
 
 pub fn event(event: &[u8]) -> String {

@@ -2,7 +2,7 @@
 
 use super::special::kinds_in_words;
 use crate::model::plan::Plan;
-use crate::model::state::Arrays;
+use crate::model::state::{first_routes, Arrays};
 
 kinds_in_words! { Flaw, FLAWS:
     TrainTwice "10: a train twice",
@@ -68,7 +68,9 @@ fn off_points(plan: &Plan, has: impl Fn(usize) -> bool) -> bool {
 }
 
 fn held_by_no_route(plan: &Plan, arrays: &Arrays) -> bool {
-    any_track(plan, |track| arrays.holds[track] >> plan.routes.len() != 0)
+    any_track(plan, |track| {
+        arrays.holds[track] & !first_routes(plan.routes.len()) != 0
+    })
 }
 
 /// The route that each signal of the plan is green for, if it is.

@@ -3,7 +3,7 @@
 
 use crate::generate::case::Pair;
 use crate::model::answer::{Answer, Verdict};
-use crate::model::plan::Plan;
+use crate::model::plan::{Plan, MOST_TRACKS};
 use crate::model::reading::read;
 use crate::model::state::Arrays;
 use crate::subject::Prepared;
@@ -175,7 +175,7 @@ impl<'a> History<'a> {
     /// A route holds a listed point exactly if it has been granted and, since its latest grant,
     /// no train has moved onto the point's release track and the route was not cancelled.
     fn compare_holds(&self, after: &Arrays) -> Finding {
-        let mut expected = [0u64; 64];
+        let mut expected = [0u64; MOST_TRACKS];
         for (number, route) in self.plan.routes.iter().enumerate() {
             let granted = self.granted[number];
             if granted <= self.cancelled[number] {

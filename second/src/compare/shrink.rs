@@ -3,6 +3,7 @@
 use super::shrink_file::with_one_item_less;
 use super::shrink_plan::{apply, cuts};
 use super::trouble::{trouble, Work};
+use crate::model::plan::{MOST_SIGNALS, MOST_TRACKS};
 use crate::model::reading::read;
 use crate::model::state::Arrays;
 use crate::subject::Subject;
@@ -120,7 +121,7 @@ impl Shrinker<'_> {
 
     /// Empties cells of the states, in both states of a pair at once.
     fn shrink_states(&mut self) -> bool {
-        const CELLS: usize = 64 * 3 + 32;
+        const CELLS: usize = MOST_TRACKS * 3 + MOST_SIGNALS;
         let mut smaller = false;
         for cell in 0..CELLS {
             let mut work = self.work.clone();
@@ -198,7 +199,7 @@ fn empty(arrays: &mut Arrays, cell: usize) -> bool {
     fn clear<T: Default + PartialEq>(cell: &mut T) -> bool {
         std::mem::take(cell) != T::default()
     }
-    let (array, cell) = (cell / 64, cell % 64);
+    let (array, cell) = (cell / MOST_TRACKS, cell % MOST_TRACKS);
     match array {
         0 => clear(&mut arrays.trains[cell]),
         1 => clear(&mut arrays.lies[cell]),

@@ -1,4 +1,4 @@
-//! Accepted plans at every limit at once: 10,852 bytes.
+//! Accepted plans at every limit at once, and so the largest files.
 //!
 //! With 32 homes and 32 points no track is left for anything else, and a path of 32 tracks must
 //! pass 31 of the 32 points. So there is one chain of 29 points behind a merge: `entry_merge` (from
@@ -12,7 +12,7 @@
 //! with clear lists as short as the rules allow, and its trains go round without end.
 
 use super::renumber::shuffled;
-use crate::model::plan::{Entry, Plan, Release, Route, Track};
+use crate::model::plan::{self, Entry, Plan, Release, Route, Track};
 use crate::random::Random;
 
 const ENTRY_HOMES: [usize; 2] = [0, 1];
@@ -21,6 +21,7 @@ const RING_HOMES: [usize; 2] = [2, 3];
 const FEEDERS: usize = 4;
 /// 7 homes that the chain's facing points lead to; each leads to a feeder.
 const SIDINGS: usize = 25;
+/// The first track that is no home.
 const ENTRY_MERGE: usize = 32;
 const RING_MERGE: usize = 33;
 const MERGE: usize = 34;
@@ -33,7 +34,7 @@ pub fn largest(random: &mut Random) -> Plan {
     let mut plan = drawn(random);
     let lists = plan.routes.iter_mut().map(|route| &mut route.clear);
     for clear in lists.chain(plan.entries.iter_mut().map(|entry| &mut entry.clear)) {
-        *clear = (0..64).collect();
+        *clear = (0..*plan::CLEAR.end()).collect();
     }
     shuffled(random, &plan)
 }
@@ -47,8 +48,10 @@ pub fn busy(random: &mut Random) -> Plan {
 fn drawn(random: &mut Random) -> Plan {
     Plan {
         tracks: tracks(),
-        homes: (0..32).collect(),
-        routes: (0..48).map(|number| route(random, number)).collect(),
+        homes: (0..ENTRY_MERGE).collect(),
+        routes: (0..*plan::ROUTES.end())
+            .map(|number| route(random, number))
+            .collect(),
         entries: entries(),
     }
 }
@@ -70,6 +73,8 @@ fn tracks() -> Vec<Track> {
         normal: RING_HOMES[0],
         reverse: RING_HOMES[1],
     });
+    // Any room that is left goes to exits that nothing leads to.
+    tracks.resize(*plan::TRACKS.end(), Track::Exit);
     tracks
 }
 
@@ -176,7 +181,7 @@ fn entries() -> Vec<Entry> {
         track,
         clear: vec![track],
     };
-    let fed = SIDINGS..32;
+    let fed = SIDINGS..ENTRY_MERGE;
     let unfed = FEEDERS + fed.len()..SIDINGS;
     ENTRY_HOMES.into_iter().chain(unfed).map(entry).collect()
 }

@@ -1,7 +1,7 @@
 //! Many events for one call, with the room that is lent for what comes of them.
 
 use super::{events, states};
-use crate::model::plan::Plan;
+use crate::model::plan::{Plan, MOST_TRACKS};
 use crate::model::state::{Arrays, State};
 use crate::model::step::step;
 use crate::random::Random;
@@ -46,7 +46,7 @@ pub fn for_no_plan(random: &mut Random) -> List {
     events.extend(&[4, 1][..random.below(3)]);
     let mut from = Arrays::fresh();
     if random.chance(50) {
-        from.trains[random.below(64)] = random.train();
+        from.trains[random.below(MOST_TRACKS)] = random.train();
     }
     with_room(random, from, events)
 }

@@ -1,6 +1,6 @@
 //! Arbitrary states, well formed and not.
 
-use crate::model::plan::{Lie, Plan};
+use crate::model::plan::{Lie, Plan, MOST_SIGNALS, MOST_TRACKS};
 use crate::model::state::{Arrays, State};
 use crate::random::Random;
 
@@ -69,14 +69,14 @@ fn spoil(random: &mut Random, plan: &Plan, arrays: &mut Arrays) {
     match random.below(11) {
         0 => arrays.trains[inside] = arrays.trains[random.below(tracks)].max(1),
         1 => arrays.trains[random.below(tracks)] = arrays.trains[inside].max(1),
-        2 => arrays.trains[beyond(random, tracks, 64)] = random.train(),
+        2 => arrays.trains[beyond(random, tracks, MOST_TRACKS)] = random.train(),
         3 => arrays.lies[inside] = random.between(1, 255) as u8,
         4 => arrays.lies[inside] = 1,
-        5 => arrays.lies[beyond(random, tracks, 64)] = 1,
+        5 => arrays.lies[beyond(random, tracks, MOST_TRACKS)] = 1,
         6 => arrays.holds[inside] |= 1 << some_route,
-        7 => arrays.holds[inside] |= 1 << beyond(random, routes, 64),
-        8 => arrays.holds[beyond(random, tracks, 64)] = 1 << some_route,
-        9 => arrays.signals[beyond(random, signals, 32)] = some_route as u8 + 1,
+        7 => arrays.holds[inside] |= 1 << beyond(random, routes, u64::BITS as usize),
+        8 => arrays.holds[beyond(random, tracks, MOST_TRACKS)] = 1 << some_route,
+        9 => arrays.signals[beyond(random, signals, MOST_SIGNALS)] = some_route as u8 + 1,
         _ => {
             let green = [some_route as u8 + 1, routes as u8 + 1, random.byte()];
             arrays.signals[random.below(signals.max(1))] = green[random.below(3)];

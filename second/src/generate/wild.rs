@@ -8,7 +8,7 @@ pub fn wild(random: &mut Random) -> Plan {
     let count = if random.chance(90) {
         random.between(1, 7)
     } else {
-        random.between(8, 64)
+        random.between(8, *plan::TRACKS.end())
     };
     let tracks: Vec<Track> = (0..count).map(|_| track(random, count)).collect();
     let homes = some_of(random, count, 40, *plan::SIGNALS.end());

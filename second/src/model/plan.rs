@@ -11,6 +11,10 @@ pub const CLEAR: RangeInclusive<usize> = 0..=64;
 pub const POINTS: RangeInclusive<usize> = 0..=16;
 pub const RELEASES: RangeInclusive<usize> = 0..=32;
 
+/// How many cells a state needs for its tracks and its signals.
+pub const MOST_TRACKS: usize = *TRACKS.end();
+pub const MOST_SIGNALS: usize = *SIGNALS.end();
+
 /// The size in bytes of the largest file that can be read.
 pub const LARGEST_FILE: usize = 10_852;
 

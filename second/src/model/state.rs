@@ -1,31 +1,37 @@
 //! The state of the box, and the plain arrays in which a state is passed from program to program.
 
-use super::plan::{Lie, Plan};
+use super::plan::{Lie, Plan, MOST_SIGNALS, MOST_TRACKS};
 
 /// A state as it is passed around: nothing keeps it from being nonsense.
 #[derive(Clone, Debug, PartialEq, Eq)]
 #[repr(C)]
 pub struct Arrays {
     /// 0 is no train.
-    pub trains: [u8; 64],
+    pub trains: [u8; MOST_TRACKS],
     /// 0 is normal, 1 reverse.
-    pub lies: [u8; 64],
+    pub lies: [u8; MOST_TRACKS],
     /// For each track the routes that hold it: bit r is route r.
-    pub holds: [u64; 64],
+    pub holds: [u64; MOST_TRACKS],
     /// 0 is red, r + 1 green for route r.
-    pub signals: [u8; 32],
+    pub signals: [u8; MOST_SIGNALS],
 }
 
 impl Arrays {
     /// No trains, all normal, nothing held, all red: the fresh state of every plan.
     pub fn fresh() -> Self {
         Arrays {
-            trains: [0; 64],
-            lies: [0; 64],
-            holds: [0; 64],
-            signals: [0; 32],
+            trains: [0; MOST_TRACKS],
+            lies: [0; MOST_TRACKS],
+            holds: [0; MOST_TRACKS],
+            signals: [0; MOST_SIGNALS],
         }
     }
+}
+
+/// The bits of the first routes, up to all 64.
+pub fn first_routes(count: usize) -> u64 {
+    1u64.checked_shl(count as u32)
+        .map_or(u64::MAX, |next| next - 1)
 }
 
 /// A set of routes.
@@ -167,7 +173,7 @@ fn load_holds(holds: &mut [RouteSet], arrays: &Arrays, plan: &Plan) -> bool {
         } else {
             0
         };
-        if cell >> allowed != 0 {
+        if cell & !first_routes(allowed) != 0 {
             return false;
         }
         *routes = RouteSet(cell);

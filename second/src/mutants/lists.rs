@@ -130,14 +130,14 @@ pub const RUN: &[Slip] = &[
 
 pub const PRINT: &[Slip] = &[
     (
-        "print plays with less room than 77",
+        "print plays with less room than a line is counted",
         Wrong::PrintList(|book, plan, arrays, events, room| {
             let more = book.any_print(plan, arrays, events, (room + 1) / LINE * LINE);
             resized(room, more)
         }),
     ),
     (
-        "print goes on while 77 bytes are left",
+        "print goes on while a line's room is left",
         Wrong::PrintList(print_while_left),
     ),
     (
@@ -207,7 +207,7 @@ pub const PRINT: &[Slip] = &[
 
 pub const OPEN: &[Slip] = &[
     (
-        "open writes with less room than 77",
+        "open writes with less room than a line is counted",
         Wrong::Open(|verdict, room| {
             let line = Book::opening(verdict, LINE);
             if room < LINE && line.count <= room {
@@ -218,7 +218,7 @@ pub const OPEN: &[Slip] = &[
         }),
     ),
     (
-        "open needs more room than 77",
+        "open needs more room than a line is counted",
         Wrong::Open(|verdict, room| match room {
             LINE => Lent::untouched(room),
             _ => Book::opening(verdict, room),

@@ -48,35 +48,35 @@ pub const ALL: &[Slip] = &[
         Wrong::Read(|file| read_within(file, one_too_high)),
     ),
     (
-        "64 tracks are too many",
+        "the most tracks are too many",
         Wrong::Read(|file| read_within(file, |place| one_short(place, Place::TrackCount))),
     ),
     (
-        "32 signals are too many",
+        "the most signals are too many",
         Wrong::Read(|file| read_within(file, |place| one_short(place, Place::SignalCount))),
     ),
     (
-        "48 routes are too many",
+        "the most routes are too many",
         Wrong::Read(|file| read_within(file, |place| one_short(place, Place::RouteCount))),
     ),
     (
-        "32 path tracks are too many",
+        "the most path tracks are too many",
         Wrong::Read(|file| read_within(file, |place| one_short(place, Place::PathCount))),
     ),
     (
-        "64 clear tracks are too many",
+        "the most clear tracks are too many",
         Wrong::Read(|file| read_within(file, |place| one_short(place, Place::ClearCount))),
     ),
     (
-        "16 reverse points are too many",
+        "the most reverse points are too many",
         Wrong::Read(|file| read_within(file, |place| one_short(place, Place::ReverseCount))),
     ),
     (
-        "32 releases are too many",
+        "the most releases are too many",
         Wrong::Read(|file| read_within(file, |place| one_short(place, Place::ReleaseCount))),
     ),
     (
-        "16 entries are too many",
+        "the most entries are too many",
         Wrong::Read(|file| read_within(file, |place| one_short(place, Place::EntryCount))),
     ),
 ];
@@ -157,7 +157,7 @@ fn empty_is_two(file: &[u8]) -> Reading {
 
 fn with_empty_path(place: Place) -> RangeInclusive<usize> {
     match place {
-        Place::PathCount => 0..=32,
+        Place::PathCount => 0..=*limits(place).end(),
         _ => limits(place),
     }
 }

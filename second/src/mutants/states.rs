@@ -3,8 +3,8 @@
 use super::{Slip, Wrong};
 use crate::book::Book;
 use crate::model::answer::{Answer, Refusal};
-use crate::model::plan::Plan;
-use crate::model::state::{Arrays, State};
+use crate::model::plan::{Plan, MOST_TRACKS};
+use crate::model::state::{first_routes, Arrays, State};
 use crate::model::step::step;
 
 pub const ALL: &[Slip] = &[
@@ -45,7 +45,7 @@ pub const ALL: &[Slip] = &[
         "holds by unknown routes pass",
         Wrong::Load(|state, plan, arrays| {
             patched(state, plan, arrays, |plan, mended| {
-                let known = (1 << plan.routes.len()) - 1;
+                let known = first_routes(plan.routes.len());
                 mended.holds.iter_mut().for_each(|routes| *routes &= known);
             })
         }),
@@ -107,7 +107,7 @@ fn redden(plan: &Plan, mended: &mut Arrays) {
 /// Only the first of each train is looked at; the others stay where they are.
 fn train_twice(state: &mut State, plan: &Plan, arrays: &Arrays) -> bool {
     let mut mended = arrays.clone();
-    for track in 1..64 {
+    for track in 1..MOST_TRACKS {
         if arrays.trains[..track].contains(&arrays.trains[track]) {
             mended.trains[track] = 0;
         }

@@ -1,6 +1,6 @@
 -- `act::drop_all`: the cells passed have lost the route, the others are as they were.
 use mathlib.Core.Path.{_≡_}
-use Prim.Native.Nat.{_-_, _≤_}
+use Prim.Native.Nat.{_≤_, _-_}
 use native.Mathlib.Omega.{arith}
 use lib.ListN.{length, length-set}
 use Rattle.laws.specs.Tables.{tab}

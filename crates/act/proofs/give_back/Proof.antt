@@ -1,8 +1,9 @@
 -- `act::give_back`: the releases that are left, two numbers each, still to be acted on equal the whole.
 use mathlib.Core.Path.{_≡_, sym, ap, _∙_}
-use Prim.Native.Nat.{_-_, _≤_}
+use Prim.Native.Nat.{_≤_, _<_, _-_}
 use native.Mathlib.Omega.{arith}
 use lib.ListN.{length, drop, length-set}
+use denote.Ref.{now}
 use mathlib.Core.Logic.{⊎-elim}
 use Rattle.laws.specs.Lists.{all-at}
 use Rattle.laws.specs.Sets.{excluding, excluding-excluding}
@@ -41,20 +42,27 @@ shared-slice-read-wide-2 c = search needs
 wide-requires-2 : tie.Need-wide-requires-2 Inv-loop μ-loop
 wide-requires-2 c κs = search needs
 
+-- the point that was read is one of the numbers of the releases, and each of them is that of a hold
+abbrev begun : tie.After-wide2 Inv-loop μ-loop → tie.Start Inv-loop μ-loop
+begun c = c .before .before .before .before .before .before .before .before
+
+named : (c : tie.After-wide2 Inv-loop μ-loop) → c .wide2 .result < length (now (begun c .args .holds))
+named c = omega (arith, all-at _ _ _ 0 (begun c .pre) (c .before .before .before .before .loop-test .taken), c .wide2 .ensures)
+
 mul-t16 : tie.Need-mul-t16 Inv-loop μ-loop
-mul-t16 c = omega (arith, all-at _ _ _ 0 (c .before .before .before .before .before .before .before .before .before .pre) (c .before .before .before .before .before .loop-test .taken), c .before .wide2 .ensures)
+mul-t16 c = omega (arith, named (c .before))
 
 slice-read-t18 : tie.Need-slice-read-t18 Inv-loop μ-loop
-slice-read-t18 c = omega (arith, all-at _ _ _ 0 (c .before .before .before .before .before .before .before .before .before .before .pre) (c .before .before .before .before .before .before .loop-test .taken), c .before .before .wide2 .ensures)
+slice-read-t18 c = omega (arith, named (c .before .before))
 
 without-requires : tie.Need-without-requires Inv-loop μ-loop
 without-requires c κs = search needs
 
 mul-holds : tie.Need-mul-holds Inv-loop μ-loop
-mul-holds c = omega (arith, all-at _ _ _ 0 (c .before .before .before .before .before .before .before .before .before .before .before .pre) (c .before .before .before .before .before .before .before .loop-test .taken), c .before .before .before .wide2 .ensures)
+mul-holds c = omega (arith, named (c .before .before .before))
 
 slice-write-holds : tie.Need-slice-write-holds Inv-loop μ-loop
-slice-write-holds c = omega (arith, all-at _ _ _ 0 (c .before .before .before .before .before .before .before .before .before .before .before .pre) (c .before .before .before .before .before .before .before .loop-test .taken), c .before .before .before .wide2 .ensures)
+slice-write-holds c = omega (arith, named (c .before .before .before))
 
 add-i : tie.Need-add-i Inv-loop μ-loop
 add-i c = search needs

@@ -1,14 +1,14 @@
 -- `act::redden`: the signals passed are red where they stand on the track, the others are as they were.
 use mathlib.Core.Path.{_≡_, sym, ap, _∙_}
-use Prim.Native.Nat.{_-_, _≤_}
+use Prim.Native.Nat.{_≤_, _-_}
 use native.Mathlib.Omega.{arith}
 use lib.ListN.{length}
 use mathlib.Core.Logic.{⊎-elim}
 use Rattle.laws.specs.Tables.{tab}
 use Rattle.plan.specs.Image.{planOf}
+use Rattle.plan.proofs.View.{signals-most}
 use Rattle.events.specs.After.{reddened}
 use Rattle.act.proofs.Walks.{upTo, done-none, done-length, done-set, done-same, done-all}
-use Rattle.state.proofs.Tests.{signals-most}
 use Rattle.act.proofs.Acts.{red-here, red-other, red-beyond}
 use borrow.Author.Needs.{needs}
 use Rattle.act.proofs.redden.Statement.{statement}

@@ -1,13 +1,13 @@
 -- `act::take`: what is left of the list still to be held equals the whole; a point that is named twice is held once.
 use mathlib.Core.Path.{_≡_, sym, _∙_}
-use Prim.Native.Nat.{_-_, _≤_}
+use Prim.Native.Nat.{_≤_, _-_}
 use native.Mathlib.Omega.{arith}
 use lib.ListN.{length, drop, length-set}
 use Rattle.laws.specs.Lists.{all-at}
 use Rattle.state.specs.Holds.{adding}
+use Rattle.state.proofs.Holds.{adding-adding}
 use Rattle.act.specs.Cells.{held}
 use Rattle.act.proofs.Walks.{writes, writes-step, writes-end, writes-tab}
-use Rattle.state.proofs.Holds.{adding-adding}
 use borrow.Author.Needs.{needs}
 use Rattle.act.proofs.take.Statement.{statement}
 use Rattle.act.proofs.take.Tie as tie

@@ -1,6 +1,6 @@
 -- `act::turn`: what is left of the list still to be turned equals the whole; in the end nothing is left.
 use mathlib.Core.Path.{_≡_, refl, sym, _∙_}
-use Prim.Native.Nat.{_-_, _≤_}
+use Prim.Native.Nat.{_≤_, _-_}
 use native.Mathlib.Omega.{arith}
 use lib.ListN.{length, drop, length-set}
 use Rattle.laws.specs.Lists.{all-at}

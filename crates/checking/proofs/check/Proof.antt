@@ -1,11 +1,11 @@
 -- `checking::check`: the lowest broken rule from here on is the lowest of all. Where `rules` unfolds, `refl` says that the code's last rule is the list's.
-use Rattle.checking.proofs.Table.{From, check-start, check-passed, check-broken, check-done, one-less}
-use Rattle.rules.specs.Verdict.{rules}
-use Rattle.plan.specs.Image.{planOf}
 use denote.Ref.{now}
 use lib.ListN.{length}
 use Prim.Native.Nat.{suc, _-_}
 use mathlib.Core.Path.{refl}
+use Rattle.plan.specs.Image.{planOf}
+use Rattle.rules.specs.Verdict.{rules}
+use Rattle.checking.proofs.Table.{From, check-start, check-passed, check-broken, check-done, one-less}
 use borrow.Author.Needs.{needs}
 use Rattle.checking.proofs.check.Statement.{statement}
 use Rattle.checking.proofs.check.Tie as tie
@@ -27,7 +27,12 @@ enum-known-found c = search needs
 
 returns : tie.Need-returns Inv-loop μ-loop
 unfolding rules
-returns c = check-broken (planOf (now (c .before .before .before .before .before .before .args .image))) _ (c .before .before .before .before .loop-test .taken) refl (c .before .before .before .first-broken .ensures) (c .before .before .before .before .before .loop .inv) (c .before .found .given .1)
+returns c =
+    let at-first-broken = c .before .before .before in
+    let at-loop-test = at-first-broken .before in
+    let at-loop = at-loop-test .before in
+    let start = at-loop .before in
+    check-broken (planOf (now (start .args .image))) _ (at-loop-test .loop-test .taken) refl (at-first-broken .first-broken .ensures) (at-loop .loop .inv) (c .before .found .given .1)
 
 enum-told : tie.Need-enum-told Inv-loop μ-loop
 enum-told c = search needs
@@ -41,7 +46,11 @@ loop-less c = one-less (planOf (now (c .before .before .before .before .before .
 
 loop-again : tie.Need-loop-again Inv-loop μ-loop
 unfolding rules
-loop-again c = check-passed (planOf (now (c .before .before .before .before .before .args .image))) _ (c .before .before .before .loop-test .taken) refl (c .before .before .first-broken .ensures) (c .before .before .before .before .loop .inv) (c .enum-told .given .1)
+loop-again c =
+    let at-loop-test = c .before .before .before in
+    let at-loop = at-loop-test .before in
+    let start = at-loop .before in
+    check-passed (planOf (now (start .args .image))) _ (at-loop-test .loop-test .taken) refl (c .before .before .first-broken .ensures) (at-loop .loop .inv) (c .enum-told .given .1)
 
 returns-2 : tie.Need-returns-2 Inv-loop μ-loop
 unfolding rules

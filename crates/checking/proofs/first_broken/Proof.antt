@@ -1,9 +1,9 @@
 -- `checking::first_broken`: rule 3 by its pairs, any other row by row.
-use Rattle.checking.proofs.Table.{by-number}
-use Rattle.rules.specs.Verdict.{rules, ruleOf, lowestBroken}
-use Rattle.plan.specs.Image.{planOf}
 use denote.Ref.{now}
 use mathlib.Core.Path.{_∙_}
+use Rattle.plan.specs.Image.{planOf}
+use Rattle.rules.specs.Verdict.{rules, ruleOf, lowestBroken}
+use Rattle.checking.proofs.Table.{by-number}
 use borrow.Author.Needs.{needs}
 use Rattle.checking.proofs.first_broken.Statement.{statement}
 use Rattle.checking.proofs.first_broken.Tie as tie

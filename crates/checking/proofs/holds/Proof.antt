@@ -1,12 +1,12 @@
 -- `checking::holds`: by the rule's number, the list's test of the row.
-use Rattle.checking.proofs.Table.{by-number, no-rule}
-use Rattle.laws.specs.Lists.{anyOf, has}
-use Rattle.laws.specs.Search.{allBelow}
-use Rattle.rules.specs.Verdict.{Rule, rules, ruleOf}
-use Rattle.plan.specs.Image.{planOf}
 use denote.Ref.{now}
 use mathlib.Core.List.{[], _∷_}
 use mathlib.Core.Path.{refl, ap, _∙_}
+use Rattle.laws.specs.Lists.{anyOf, has}
+use Rattle.laws.specs.Search.{allBelow}
+use Rattle.plan.specs.Image.{planOf}
+use Rattle.rules.specs.Verdict.{Rule, rules, ruleOf}
+use Rattle.checking.proofs.Table.{by-number, no-rule}
 use borrow.Author.Needs.{needs}
 use Rattle.checking.proofs.holds.Statement.{statement}
 use Rattle.checking.proofs.holds.Tie as tie

@@ -1,12 +1,12 @@
 -- `checking::rows`: by the rule's number, the list's count.
-use Rattle.checking.proofs.Table.{by-number, same-rows, past-rules}
-use Rattle.rules.specs.Verdict.{Rule, rules, ruleOf}
-use Rattle.plan.specs.Image.{planOf}
 use denote.Ref.{now}
 use native.Mathlib.Omega.{arith}
 use Prim.Native.Nat.{_<_}
 use mathlib.Core.Logic.{⊎-elim, inl, inr}
 use mathlib.Core.Path.{_≡_, refl, ap, _∙_}
+use Rattle.plan.specs.Image.{planOf}
+use Rattle.rules.specs.Verdict.{Rule, rules, ruleOf}
+use Rattle.checking.proofs.Table.{by-number, same-rows, past-rules}
 use borrow.Author.Needs.{needs}
 use Rattle.checking.proofs.rows.Statement.{statement}
 use Rattle.checking.proofs.rows.Tie as tie
@@ -38,8 +38,11 @@ returns-3 c = c .tracks .ensures ∙ same-rows (planOf (now (c .before .before .
 
 returns-4 : tie.Need-returns-4
 unfolding rules
-returns-4 c = let n : (c .before .before .before .before .before .args .rule ≡ 5 → ⊥) = λ e. c .before .before .before .before .match .rest .1 (inl e) in
-    c .routes .ensures ∙ same-rows (planOf (now (c .before .before .before .before .before .args .image))) 6 6 refl (omega (arith, c .before .before .before .before .match .rest .0 .1)) (c .before .if3 .taken)
+returns-4 c =
+    let at-match = c .before .before .before .before in
+    let start = at-match .before in
+    let n : (start .args .rule ≡ 5 → ⊥) = λ e. at-match .match .rest .1 (inl e) in
+    c .routes .ensures ∙ same-rows (planOf (now (start .args .image))) 6 6 refl (omega (arith, at-match .match .rest .0 .1)) (c .before .if3 .taken)
 
 returns-5 : tie.Need-returns-5
 unfolding rules

@@ -1,23 +1,34 @@
 -- `move_to`: 40 and 41 in order; the first that applies answers.
-use Rattle.decide.proofs.Chains.{move-40, move-41, move-moved}
+use mathlib.Core.Path.{_≡_, sym, _∙_}
+use mathlib.Core.Bool.{false}
+use denote.Ref.{now}
+use Rattle.state.specs.Cells.{trainsIn}
+use Rattle.events.specs.Decide.{hasTrain, moveTo}
 use borrow.Author.Needs.{needs}
 use Rattle.decide.proofs.move_to.Statement.{statement}
 use Rattle.decide.proofs.move_to.Tie as tie
+
+-- 40: the track is free.
+free : (c : tie.Else1) → let s = c .before .before in hasTrain (trainsIn (now (s .args .cells))) (s .args .to) ≡ false
+free c = sym (c .before .has-train .ensures) ∙ c .if1 .left
 
 has-train-requires : tie.Need-has-train-requires
 has-train-requires c κs = search needs
 
 returns : tie.Need-returns
-returns c = move-40 _ _ _ _ _ _ (c .before .has-train .ensures) (c .if1 .taken)
+unfolding moveTo
+returns c = rw (sym (c .before .has-train .ensures) ∙ c .if1 .taken)
 
 runs-through-requires : tie.Need-runs-through-requires
 runs-through-requires c κs = search needs
 
 returns-2 : tie.Need-returns-2
-returns-2 c = move-41 _ _ _ _ _ _ (c .before .before .before .has-train .ensures) (c .before .before .if1 .left) (c .before .runs-through .ensures) (c .if2 .taken)
+unfolding moveTo
+returns-2 c = rw (free (c .before .before), sym (c .before .runs-through .ensures) ∙ c .if2 .taken)
 
 returns-3 : tie.Need-returns-3
-returns-3 c = move-moved _ _ _ _ _ _ (c .before .before .before .has-train .ensures) (c .before .before .if1 .left) (c .before .runs-through .ensures) (c .if2 .left)
+unfolding moveTo
+returns-3 c = rw (free (c .before .before), sym (c .before .runs-through .ensures) ∙ c .if2 .left)
 
 pub move-to-spec : {M : Type 1} → statement M
 move-to-spec =

@@ -1,9 +1,9 @@
 -- `layout::home_of`: the element of the list of homes; past its end there is none.
 use Rattle.plan.specs.Image.{planOf}
 use denote.Ref.{now}
-use lib.ListN.{getD, length}
+use lib.ListN.{getD}
 use mathlib.Core.List.{List}
-use Prim.Native.Nat.{ℕ, _≤_}
+use Prim.Native.Nat.{ℕ}
 use mathlib.Core.Path.{_∙_, ap}
 use Rattle.layout.proofs.Seen.{home-beyond, home-at}
 use borrow.Author.Needs.{needs}

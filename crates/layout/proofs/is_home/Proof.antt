@@ -1,9 +1,9 @@
 -- `layout::is_home`: the list of homes has the track.
-use Rattle.plan.specs.Layout.{isHome}
-use Rattle.laws.specs.Lists.{has}
 use mathlib.Core.List.{List}
 use Prim.Native.Nat.{ℕ}
 use mathlib.Core.Path.{_∙_, ap}
+use Rattle.laws.specs.Lists.{has}
+use Rattle.plan.specs.Layout.{isHome}
 use borrow.Author.Needs.{needs}
 use Rattle.layout.proofs.is_home.Statement.{statement}
 use Rattle.layout.proofs.is_home.Tie as tie

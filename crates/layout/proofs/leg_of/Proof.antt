@@ -1,8 +1,7 @@
--- `layout::leg_of`: the second number is the normal leg, the third the reverse one.
-use Rattle.plan.specs.Image.{planOf}
-use denote.Ref.{now}
-use mathlib.Core.Path.{_∙_}
-use Rattle.layout.proofs.Seen.{leg-reverse, leg-normal}
+-- `layout::leg_of`: the image shows the plan's track, and what its kind says is asked of it.
+use mathlib.Core.Path.{ap, _∙_}
+use Rattle.plan.specs.declared.Track.{Track}
+use Rattle.plan.specs.Kinds.{leg}
 use borrow.Author.Needs.{needs}
 use Rattle.layout.proofs.leg_of.Statement.{statement}
 use Rattle.layout.proofs.leg_of.Tie as tie
@@ -10,18 +9,11 @@ use Rattle.layout.proofs.leg_of.Tie as tie
 track-of-requires : tie.Need-track-of-requires
 track-of-requires c κs = search needs
 
-wide-requires : tie.Need-wide-requires
-wide-requires c κs = search needs
+leg-requires : tie.Need-leg-requires
+leg-requires c κs = search needs
 
 returns : tie.Need-returns
-returns c = c .wide .ensures ∙ leg-reverse (planOf (now (c .before .before .before .args .image))) _ (c .before .before .track-of .ensures) (c .before .if1 .taken)
-
-wide-requires-2 : tie.Need-wide-requires-2
-wide-requires-2 c κs = search needs
-
-returns-2 : tie.Need-returns-2
-returns-2 c = c .wide2 .ensures ∙ leg-normal (planOf (now (c .before .before .before .args .image))) _ (c .before .before .track-of .ensures) (c .before .if1 .left)
+returns c = c .leg .ensures ∙ ap (λ (t : Track). leg t (c .before .before .args .lie)) (c .before .track-of .ensures)
 
 pub leg-of-spec : {M : Type 1} → statement M
-leg-of-spec =
-    tie.close (tie.spec track-of-requires wide-requires returns wide-requires-2 returns-2)
+leg-of-spec = tie.close (tie.spec track-of-requires leg-requires returns)

@@ -27,7 +27,11 @@ slice-aggregate-line-of-one c = refl
 
 line-of-one-requires : tie.Need-line-of-one-requires
 unfolding bytesOf
-line-of-one-requires c κs = room-after (bytesOf "accident ") (c .before .before .before .before .before .before .before .before .before .harm-number .result) (7 + numberMost + 1) (lit≤ tt) (c .before .before .before .before .before .before .before .put-number .ensures) (c .before .before .before .before .before .before .before .before .before .before .before .before .pre)
+line-of-one-requires c κs =
+    let at-put-number = c .before .before .before .before .before .before .before in
+    let at-harm-number = at-put-number .before .before in
+    let start = at-harm-number .before .before .before in
+    room-after (bytesOf "accident ") (at-harm-number .harm-number .result) (7 + numberMost + 1) (lit≤ tt) (at-put-number .put-number .ensures) (start .pre)
 
 enum-known-harm-2 : tie.Need-enum-known-harm-2
 enum-known-harm-2 c = c .match .keys2
@@ -37,7 +41,11 @@ slice-aggregate-line-of-one-2 c = refl
 
 line-of-one-requires-2 : tie.Need-line-of-one-requires-2
 unfolding bytesOf
-line-of-one-requires-2 c κs = room-after (bytesOf "accident ") (c .before .before .before .before .before .before .before .before .before .harm-number .result) (7 + numberMost + 1) (lit≤ tt) (c .before .before .before .before .before .before .before .put-number .ensures) (c .before .before .before .before .before .before .before .before .before .before .before .before .pre)
+line-of-one-requires-2 c κs =
+    let at-put-number = c .before .before .before .before .before .before .before in
+    let at-harm-number = at-put-number .before .before in
+    let start = at-harm-number .before .before .before in
+    room-after (bytesOf "accident ") (at-harm-number .harm-number .result) (7 + numberMost + 1) (lit≤ tt) (at-put-number .put-number .ensures) (start .pre)
 
 enum-known-harm-3 : tie.Need-enum-known-harm-3
 enum-known-harm-3 c = c .match .keys3
@@ -47,28 +55,44 @@ slice-aggregate-line-of-one-3 c = refl
 
 line-of-one-requires-3 : tie.Need-line-of-one-requires-3
 unfolding bytesOf
-line-of-one-requires-3 c κs = room-after (bytesOf "accident ") (c .before .before .before .before .before .before .before .before .before .harm-number .result) (7 + numberMost + 1) (lit≤ tt) (c .before .before .before .before .before .before .before .put-number .ensures) (c .before .before .before .before .before .before .before .before .before .before .before .before .pre)
+line-of-one-requires-3 c κs =
+    let at-put-number = c .before .before .before .before .before .before .before in
+    let at-harm-number = at-put-number .before .before in
+    let start = at-harm-number .before .before .before in
+    room-after (bytesOf "accident ") (at-harm-number .harm-number .result) (7 + numberMost + 1) (lit≤ tt) (at-put-number .put-number .ensures) (start .pre)
 
 same-length : tie.Need-same-length
 same-length c = c .before .before .line-of-one .kept .1 .1 .0 ∙ c .before .before .before .before .before .before .before .before .before .before .put-number .kept .1 .1 .0
 
 returns : tie.Need-returns
 unfolding answerLine answerWords tableNumber harmWords answerValues harmValues line bytesOf
-returns c = rw (← c .before .before .before .before .before .before .before .before .before .before .before .before .harm-number .ensures, c .before .before .before .before .before .before .harm .given .1) (wrote-then (c .before .before .before .before .before .before .before .before .before .before .put-number .ensures) (c .before .before .line-of-one .ensures))
+returns c =
+    let at-harm = c .before .before .before .before .before .before in
+    let at-put-number = at-harm .before .before .before .before in
+    let at-harm-number = at-put-number .before .before in
+    rw (← at-harm-number .harm-number .ensures, at-harm .harm .given .1) (wrote-then (at-put-number .put-number .ensures) (c .before .before .line-of-one .ensures))
 
 same-length-2 : tie.Need-same-length-2
 same-length-2 c = c .before .before .line-of-one2 .kept .1 .1 .0 ∙ c .before .before .before .before .before .before .before .before .before .before .put-number .kept .1 .1 .0
 
 returns-2 : tie.Need-returns-2
 unfolding answerLine answerWords tableNumber harmWords answerValues harmValues line bytesOf
-returns-2 c = rw (← c .before .before .before .before .before .before .before .before .before .before .before .before .harm-number .ensures, c .before .before .before .before .before .before .harm2 .given .1) (wrote-then (c .before .before .before .before .before .before .before .before .before .before .put-number .ensures) (c .before .before .line-of-one2 .ensures))
+returns-2 c =
+    let at-harm2 = c .before .before .before .before .before .before in
+    let at-put-number = at-harm2 .before .before .before .before in
+    let at-harm-number = at-put-number .before .before in
+    rw (← at-harm-number .harm-number .ensures, at-harm2 .harm2 .given .1) (wrote-then (at-put-number .put-number .ensures) (c .before .before .line-of-one2 .ensures))
 
 same-length-3 : tie.Need-same-length-3
 same-length-3 c = c .before .before .line-of-one3 .kept .1 .1 .0 ∙ c .before .before .before .before .before .before .before .before .before .before .put-number .kept .1 .1 .0
 
 returns-3 : tie.Need-returns-3
 unfolding answerLine answerWords tableNumber harmWords answerValues harmValues line bytesOf
-returns-3 c = rw (← c .before .before .before .before .before .before .before .before .before .before .before .before .harm-number .ensures, c .before .before .before .before .before .before .harm3 .given .1) (wrote-then (c .before .before .before .before .before .before .before .before .before .before .put-number .ensures) (c .before .before .line-of-one3 .ensures))
+returns-3 c =
+    let at-harm3 = c .before .before .before .before .before .before in
+    let at-put-number = at-harm3 .before .before .before .before in
+    let at-harm-number = at-put-number .before .before in
+    rw (← at-harm-number .harm-number .ensures, at-harm3 .harm3 .given .1) (wrote-then (at-put-number .put-number .ensures) (c .before .before .line-of-one3 .ensures))
 
 pub harm-line-spec : {M : Type 1} → statement M
 harm-line-spec =

@@ -11,6 +11,14 @@ use Rattle.lines.proofs.Shown.{bare-line}
 use Rattle.lines.proofs.refusal_line.Statement.{statement}
 use Rattle.lines.proofs.refusal_line.Tie as tie
 
+-- The places, each with the way back to the one before it: the number is written, and each arm goes on from there. (Where an answer rewrites with a
+-- fact of a place it walks there itself: `rw` would look for the rewritten term in the argument of the place's name, too.)
+abbrev start : tie.After-put-number → tie.Start
+start c = c .before .before .before .before .before
+
+abbrev numbered : tie.After-slice-known2 → tie.After-put-number
+numbered c = c .before .before
+
 slice-aggregate-put-number : tie.Need-slice-aggregate-put-number
 slice-aggregate-put-number c = refl
 
@@ -28,7 +36,9 @@ slice-aggregate-line-of-one c = refl
 
 line-of-one-requires : tie.Need-line-of-one-requires
 unfolding bytesOf
-line-of-one-requires c κs = room-after (bytesOf "refused ") (c .before .before .before .before .before .before .before .before .before .refusal-number .result) (7 + numberMost + 1) (lit≤ tt) (c .before .before .before .before .before .before .before .put-number .ensures) (c .before .before .before .before .before .before .before .before .before .before .before .before .pre)
+line-of-one-requires c κs =
+    let n = numbered (c .before .before .before .before .before) in
+    room-after (bytesOf "refused ") (n .before .before .refusal-number .result) (7 + numberMost + 1) (lit≤ tt) (n .put-number .ensures) (start n .pre)
 
 enum-known-refusal-2 : tie.Need-enum-known-refusal-2
 enum-known-refusal-2 c = c .match .keys2
@@ -38,7 +48,9 @@ slice-aggregate-line-of-one-2 c = refl
 
 line-of-one-requires-2 : tie.Need-line-of-one-requires-2
 unfolding bytesOf
-line-of-one-requires-2 c κs = room-after (bytesOf "refused ") (c .before .before .before .before .before .before .before .before .before .refusal-number .result) (7 + numberMost + 1) (lit≤ tt) (c .before .before .before .before .before .before .before .put-number .ensures) (c .before .before .before .before .before .before .before .before .before .before .before .before .pre)
+line-of-one-requires-2 c κs =
+    let n = numbered (c .before .before .before .before .before) in
+    room-after (bytesOf "refused ") (n .before .before .refusal-number .result) (7 + numberMost + 1) (lit≤ tt) (n .put-number .ensures) (start n .pre)
 
 enum-known-refusal-3 : tie.Need-enum-known-refusal-3
 enum-known-refusal-3 c = c .match .keys3
@@ -48,7 +60,9 @@ slice-aggregate-line-of-one-3 c = refl
 
 line-of-one-requires-3 : tie.Need-line-of-one-requires-3
 unfolding bytesOf
-line-of-one-requires-3 c κs = room-after (bytesOf "refused ") (c .before .before .before .before .before .before .before .before .before .refusal-number .result) (7 + numberMost + 1) (lit≤ tt) (c .before .before .before .before .before .before .before .put-number .ensures) (c .before .before .before .before .before .before .before .before .before .before .before .before .pre)
+line-of-one-requires-3 c κs =
+    let n = numbered (c .before .before .before .before .before) in
+    room-after (bytesOf "refused ") (n .before .before .refusal-number .result) (7 + numberMost + 1) (lit≤ tt) (n .put-number .ensures) (start n .pre)
 
 enum-known-refusal-4 : tie.Need-enum-known-refusal-4
 enum-known-refusal-4 c = c .match .keys4
@@ -58,46 +72,66 @@ slice-aggregate-line-of-one-4 c = refl
 
 line-of-one-requires-4 : tie.Need-line-of-one-requires-4
 unfolding bytesOf
-line-of-one-requires-4 c κs = room-after (bytesOf "refused ") (c .before .before .before .before .before .before .before .before .before .refusal-number .result) (8 + numberMost + 1) (lit≤ tt) (c .before .before .before .before .before .before .before .put-number .ensures) (c .before .before .before .before .before .before .before .before .before .before .before .before .pre)
+line-of-one-requires-4 c κs =
+    let n = numbered (c .before .before .before .before .before) in
+    room-after (bytesOf "refused ") (n .before .before .refusal-number .result) (8 + numberMost + 1) (lit≤ tt) (n .put-number .ensures) (start n .pre)
 
 put-end-requires : tie.Need-put-end-requires
 unfolding bytesOf
-put-end-requires c κs = let h = room-after (bytesOf "refused ") (c .before .before .before .before .before .before .refusal-number .result) 1 (lit≤ tt) (c .before .before .before .before .put-number .ensures) (c .before .before .before .before .before .before .before .before .before .pre) in omega arith
+put-end-requires c κs =
+    let n = numbered (c .before .before) in
+    let h = room-after (bytesOf "refused ") (n .before .before .refusal-number .result) 1 (lit≤ tt) (n .put-number .ensures) (start n .pre) in
+    omega arith
 
 same-length : tie.Need-same-length
-same-length c = c .before .before .line-of-one .kept .1 .1 .0 ∙ c .before .before .before .before .before .before .before .before .before .before .put-number .kept .1 .1 .0
+same-length c = c .before .before .line-of-one .kept .1 .1 .0 ∙ numbered (c .before .before .before .before .before .before .before .before) .put-number .kept .1 .1 .0
 
 returns : tie.Need-returns
 unfolding answerLine answerWords tableNumber refusalWords answerValues refusalValues line bytesOf
-returns c = rw (← c .before .before .before .before .before .before .before .before .before .before .before .before .refusal-number .ensures, c .before .before .before .before .before .before .refusal .given .1) (wrote-then (c .before .before .before .before .before .before .before .before .before .before .put-number .ensures) (c .before .before .line-of-one .ensures))
+returns c =
+    let m = c .before .before .before .before .before .before in
+    let n = m .before .before .before .before in
+    rw (← n .before .before .refusal-number .ensures, m .refusal .given .1) (wrote-then (n .put-number .ensures) (c .before .before .line-of-one .ensures))
 
 same-length-2 : tie.Need-same-length-2
-same-length-2 c = c .before .before .line-of-one2 .kept .1 .1 .0 ∙ c .before .before .before .before .before .before .before .before .before .before .put-number .kept .1 .1 .0
+same-length-2 c = c .before .before .line-of-one2 .kept .1 .1 .0 ∙ numbered (c .before .before .before .before .before .before .before .before) .put-number .kept .1 .1 .0
 
 returns-2 : tie.Need-returns-2
 unfolding answerLine answerWords tableNumber refusalWords answerValues refusalValues line bytesOf
-returns-2 c = rw (← c .before .before .before .before .before .before .before .before .before .before .before .before .refusal-number .ensures, c .before .before .before .before .before .before .refusal2 .given .1) (wrote-then (c .before .before .before .before .before .before .before .before .before .before .put-number .ensures) (c .before .before .line-of-one2 .ensures))
+returns-2 c =
+    let m = c .before .before .before .before .before .before in
+    let n = m .before .before .before .before in
+    rw (← n .before .before .refusal-number .ensures, m .refusal2 .given .1) (wrote-then (n .put-number .ensures) (c .before .before .line-of-one2 .ensures))
 
 same-length-3 : tie.Need-same-length-3
-same-length-3 c = c .before .before .line-of-one3 .kept .1 .1 .0 ∙ c .before .before .before .before .before .before .before .before .before .before .put-number .kept .1 .1 .0
+same-length-3 c = c .before .before .line-of-one3 .kept .1 .1 .0 ∙ numbered (c .before .before .before .before .before .before .before .before) .put-number .kept .1 .1 .0
 
 returns-3 : tie.Need-returns-3
 unfolding answerLine answerWords tableNumber refusalWords answerValues refusalValues line bytesOf
-returns-3 c = rw (← c .before .before .before .before .before .before .before .before .before .before .before .before .refusal-number .ensures, c .before .before .before .before .before .before .refusal3 .given .1) (wrote-then (c .before .before .before .before .before .before .before .before .before .before .put-number .ensures) (c .before .before .line-of-one3 .ensures))
+returns-3 c =
+    let m = c .before .before .before .before .before .before in
+    let n = m .before .before .before .before in
+    rw (← n .before .before .refusal-number .ensures, m .refusal3 .given .1) (wrote-then (n .put-number .ensures) (c .before .before .line-of-one3 .ensures))
 
 same-length-4 : tie.Need-same-length-4
-same-length-4 c = c .before .before .line-of-one4 .kept .1 .1 .0 ∙ c .before .before .before .before .before .before .before .before .before .before .put-number .kept .1 .1 .0
+same-length-4 c = c .before .before .line-of-one4 .kept .1 .1 .0 ∙ numbered (c .before .before .before .before .before .before .before .before) .put-number .kept .1 .1 .0
 
 returns-4 : tie.Need-returns-4
 unfolding answerLine answerWords tableNumber refusalWords answerValues refusalValues line bytesOf
-returns-4 c = rw (← c .before .before .before .before .before .before .before .before .before .before .before .before .refusal-number .ensures, c .before .before .before .before .before .before .refusal4 .given .1) (wrote-then (c .before .before .before .before .before .before .before .before .before .before .put-number .ensures) (c .before .before .line-of-one4 .ensures))
+returns-4 c =
+    let m = c .before .before .before .before .before .before in
+    let n = m .before .before .before .before in
+    rw (← n .before .before .refusal-number .ensures, m .refusal4 .given .1) (wrote-then (n .put-number .ensures) (c .before .before .line-of-one4 .ensures))
 
 same-length-5 : tie.Need-same-length-5
-same-length-5 c = c .before .before .put-end .kept .0 ∙ c .before .before .before .before .before .before .before .put-number .kept .1 .1 .0
+same-length-5 c = c .before .before .put-end .kept .0 ∙ numbered (c .before .before .before .before .before) .put-number .kept .1 .1 .0
 
 returns-5 : tie.Need-returns-5
 unfolding bytesOf
-returns-5 c = rw (bare-line (c .before .before .before .before .before .before .before .before .before .before .before .before .args .refusal) (c .before .before .before .before .match .keys5), ← c .before .before .before .before .before .before .before .before .before .refusal-number .ensures) (wrote-then (c .before .before .before .before .before .before .before .put-number .ensures) (c .before .before .put-end .ensures))
+returns-5 c =
+    let m = c .before .before .before .before in
+    let n = numbered (m .before) in
+    rw (bare-line (start n .args .refusal) (m .match .keys5), ← n .before .before .refusal-number .ensures) (wrote-then (n .put-number .ensures) (c .before .before .put-end .ensures))
 
 pub refusal-line-spec : {M : Type 1} → statement M
 refusal-line-spec =

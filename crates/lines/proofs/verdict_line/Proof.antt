@@ -42,7 +42,10 @@ same-length-2 c = search needs
 
 returns-2 : tie.Need-returns-2
 unfolding verdictLine bytesOf
-returns-2 c = rw (c .before .before .before .before .before .before .before .before .before .enum-told .given .1) (wrote-then (c .before .before .before .before .before .before .put-word .ensures) (c .before .before .put-end .ensures))
+returns-2 c =
+    let at-put-word = c .before .before .before .before .before .before in
+    let at-enum-told = at-put-word .before .before .before in
+    rw (at-enum-told .enum-told .given .1) (wrote-then (at-put-word .put-word .ensures) (c .before .before .put-end .ensures))
 
 pub verdict-line-spec : {M : Type 1} → statement M
 verdict-line-spec =

@@ -1,18 +1,15 @@
 -- `routes::is_released`: what is left of the releases has the point exactly if all of them have it.
-use Rattle.routes.proofs.Ways.{point-read, pairs-count, pairs-over}
-use Rattle.laws.specs.Walks.{any-passed, any-failed, any-done}
-use Rattle.rules.specs.Rules.{noRelease, released}
-use Rattle.plan.specs.Image.{planOf}
-use Rattle.plan.specs.Records.{routeOf}
-use Rattle.laws.specs.Lists.{anyOf}
 use borrow.Author.Tests.{eq-eqb, ne-eqb}
-use denote.Ref.{now}
-use lib.ListN.{length, getD, drop}
+use lib.ListN.{drop}
 use lib.Dec.{eqb}
-use native.Mathlib.Omega.{arith}
-use Prim.Native.Nat.{ℕ, _+_, _*_, _-_, _<_, _≤_}
-use mathlib.Core.List.{List}
-use mathlib.Core.Path.{_≡_, refl, sym, ap, _∙_}
+use Prim.Native.Nat.{_-_}
+use mathlib.Core.Path.{_≡_, refl, sym, _∙_}
+use Rattle.laws.specs.Walks.{any-passed, any-failed, any-done}
+use Rattle.laws.specs.Lists.{anyOf}
+use Rattle.plan.specs.Records.{routeOf}
+use Rattle.plan.specs.Routes.{noRelease, released}
+use Rattle.plan.specs.Image.{planOf}
+use Rattle.routes.proofs.Ways.{point-read, pairs-count, pairs-over}
 use borrow.Author.Needs.{needs}
 use Rattle.routes.proofs.is_released.Statement.{statement}
 use Rattle.routes.proofs.is_released.Tie as tie
@@ -43,8 +40,13 @@ wide-requires c κs = search needs
 
 returns : tie.Need-returns Inv-loop μ-loop
 unfolding released
-returns c = sym (any-passed (λ q. eqb (q .point) (c .before .before .before .before .before .before .args .point)) _ _ noRelease (pairs-count _ _ (c .before .before .before .before .before .releases-of .ensures) (c .before .before .before .loop-test .taken))
-    (eq-eqb _ _ (sym (point-read _ _ (c .before .before .before .before .before .releases-of .ensures) (c .before .wide .ensures)) ∙ c .if1 .taken))) ∙ c .before .before .before .before .loop .inv
+returns c =
+    let at-loop-test = c .before .before .before in
+    let at-loop = at-loop-test .before in
+    let at-releases-of = at-loop .before in
+    let start = at-releases-of .before in
+    sym (any-passed (λ q. eqb (q .point) (start .args .point)) _ _ noRelease (pairs-count _ _ (at-releases-of .releases-of .ensures) (at-loop-test .loop-test .taken))
+    (eq-eqb _ _ (sym (point-read _ _ (at-releases-of .releases-of .ensures) (c .before .wide .ensures)) ∙ c .if1 .taken))) ∙ at-loop .loop .inv
 
 add-i : tie.Need-add-i Inv-loop μ-loop
 add-i c = search needs
@@ -53,8 +55,13 @@ loop-less : tie.Need-loop-less Inv-loop μ-loop
 loop-less c = search needs
 
 loop-again : tie.Need-loop-again Inv-loop μ-loop
-loop-again c = sym (any-failed (λ q. eqb (q .point) (c .before .before .before .before .before .before .args .point)) _ _ noRelease (pairs-count _ _ (c .before .before .before .before .before .releases-of .ensures) (c .before .before .before .loop-test .taken))
-    (ne-eqb _ _ (λ z. c .if1 .left (point-read _ _ (c .before .before .before .before .before .releases-of .ensures) (c .before .wide .ensures) ∙ z)))) ∙ c .before .before .before .before .loop .inv
+loop-again c =
+    let at-loop-test = c .before .before .before in
+    let at-loop = at-loop-test .before in
+    let at-releases-of = at-loop .before in
+    let start = at-releases-of .before in
+    sym (any-failed (λ q. eqb (q .point) (start .args .point)) _ _ noRelease (pairs-count _ _ (at-releases-of .releases-of .ensures) (at-loop-test .loop-test .taken))
+    (ne-eqb _ _ (λ z. c .if1 .left (point-read _ _ (at-releases-of .releases-of .ensures) (c .before .wide .ensures) ∙ z)))) ∙ at-loop .loop .inv
 
 returns-2 : tie.Need-returns-2 Inv-loop μ-loop
 unfolding released

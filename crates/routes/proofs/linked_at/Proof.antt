@@ -1,8 +1,8 @@
 -- `routes::linked_at`: the track at the place and the following one are asked.
-use Rattle.routes.proofs.Ways.{path-most, linked-read}
-use Rattle.plan.specs.Image.{planOf}
 use denote.Ref.{now}
 use native.Mathlib.Omega.{arith}
+use Rattle.plan.specs.Image.{planOf}
+use Rattle.routes.proofs.Ways.{path-most, linked-read}
 use borrow.Author.Needs.{needs}
 use Rattle.routes.proofs.linked_at.Statement.{statement}
 use Rattle.routes.proofs.linked_at.Tie as tie

@@ -1,14 +1,14 @@
 -- `routes::links`: each place passed leads to the following one.
-use Rattle.laws.specs.Walks.{below-start, below-passed, below-failed, below-done}
-use Rattle.rules.specs.Rules.{linkedAt}
-use Rattle.plan.specs.Image.{planOf}
-use Rattle.laws.specs.Search.{allBelow}
-use Rattle.laws.specs.Tests.{Is}
 use lib.ListN.{length}
 use borrow.Author.Tests.{not-true, not-false}
 use denote.Ref.{now}
 use Prim.Native.Nat.{_-_}
 use mathlib.Core.Path.{sym, _∙_}
+use Rattle.laws.specs.Walks.{below-start, below-passed, below-failed, below-done}
+use Rattle.laws.specs.Search.{allBelow}
+use Rattle.laws.specs.Tests.{Is}
+use Rattle.plan.specs.Image.{planOf}
+use Rattle.rules.specs.Rules.{linkedAt}
 use borrow.Author.Needs.{needs}
 use Rattle.routes.proofs.links.Statement.{statement}
 use Rattle.routes.proofs.links.Tie as tie
@@ -29,7 +29,11 @@ linked-at-requires : tie.Need-linked-at-requires Inv-loop μ-loop
 linked-at-requires c κs = rw (c .before .before .path-of .ensures) at (c .loop-test .taken)
 
 returns : tie.Need-returns Inv-loop μ-loop
-returns c = sym (below-failed (linkedAt (planOf (now (c .before .before .before .before .before .args .image))) (c .before .before .before .before .before .args .route)) _ _ (rw (c .before .before .before .before .path-of .ensures) at (c .before .before .loop-test .taken)) (sym (c .before .linked-at .ensures) ∙ not-true _ (c .if1 .taken)))
+returns c =
+    let at-path-of = c .before .before .before .before in
+    let start = at-path-of .before in
+    sym (below-failed (linkedAt (planOf (now (start .args .image))) (start .args .route)) _ _
+    (rw (at-path-of .path-of .ensures) at (c .before .before .loop-test .taken)) (sym (c .before .linked-at .ensures) ∙ not-true _ (c .if1 .taken)))
 
 add-i : tie.Need-add-i Inv-loop μ-loop
 add-i c = search needs
@@ -41,7 +45,9 @@ loop-again : tie.Need-loop-again Inv-loop μ-loop
 loop-again c = below-passed _ _ (c .before .before .before .loop .inv) (sym (c .before .linked-at .ensures) ∙ not-false _ (c .if1 .left))
 
 returns-2 : tie.Need-returns-2 Inv-loop μ-loop
-returns-2 c = sym (below-done (linkedAt (planOf (now (c .before .before .before .args .image))) (c .before .before .before .args .route)) _ _ (c .before .loop .inv) (rw (c .before .before .path-of .ensures) at (c .loop-test .left)))
+returns-2 c =
+    let start = c .before .before .before in
+    sym (below-done (linkedAt (planOf (now (start .args .image))) (start .args .route)) _ _ (c .before .loop .inv) (rw (c .before .before .path-of .ensures) at (c .loop-test .left)))
 
 pub links-spec : {M : Type 1} → statement M
 links-spec =

@@ -1,7 +1,7 @@
 -- `routes::path_clear`: the clear list has every track of the path.
-use Rattle.routes.proofs.Ways.{path-clear-read}
-use Rattle.plan.specs.Image.{planOf}
 use denote.Ref.{now}
+use Rattle.plan.specs.Image.{planOf}
+use Rattle.routes.proofs.Ways.{path-clear-read}
 use borrow.Author.Needs.{needs}
 use Rattle.routes.proofs.path_clear.Statement.{statement}
 use Rattle.routes.proofs.path_clear.Tie as tie

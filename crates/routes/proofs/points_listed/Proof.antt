@@ -1,11 +1,11 @@
 -- `routes::points_listed`: facing points, trailing points, and no point in both lists.
-use Rattle.laws.specs.Chains.{both-stop, both-go}
-use Rattle.routes.proofs.Ways.{apart-read}
-use Rattle.rules.specs.Rules.{pointsListed}
-use Rattle.plan.specs.Image.{planOf}
 use borrow.Author.Tests.{not-true, not-false}
-use mathlib.Core.Path.{refl, _∙_}
+use mathlib.Core.Path.{refl}
 use denote.Ref.{now}
+use Rattle.laws.specs.Chains.{both-stop, both-go}
+use Rattle.plan.specs.Image.{planOf}
+use Rattle.rules.specs.Rules.{pointsListed}
+use Rattle.routes.proofs.Ways.{apart-read}
 use borrow.Author.Needs.{needs}
 use Rattle.routes.proofs.points_listed.Statement.{statement}
 use Rattle.routes.proofs.points_listed.Tie as tie
@@ -35,8 +35,14 @@ none-in-requires c κs = search needs
 
 returns-3 : tie.Need-returns-3
 unfolding pointsListed
-returns-3 c = both-go (both-go (c .before .before .before .before .before .before .facing-all .ensures) (not-false _ (c .before .before .before .before .before .if1 .left)) (c .before .before .before .before .trailing-all .ensures)) (not-false _ (c .before .before .before .if2 .left))
-    (apart-read (planOf (now (c .before .before .before .before .before .before .before .args .image))) _ (c .before .before .points-of .ensures) (c .before .points-of2 .ensures) (c .none-in .ensures))
+returns-3 c =
+    let at-if2 = c .before .before .before in
+    let at-trailing-all = at-if2 .before in
+    let at-if1 = at-trailing-all .before in
+    let at-facing-all = at-if1 .before in
+    let start = at-facing-all .before in
+    both-go (both-go (at-facing-all .facing-all .ensures) (not-false _ (at-if1 .if1 .left)) (at-trailing-all .trailing-all .ensures)) (not-false _ (at-if2 .if2 .left))
+    (apart-read (planOf (now (start .args .image))) _ (c .before .before .points-of .ensures) (c .before .points-of2 .ensures) (c .none-in .ensures))
 
 pub points-listed-spec : {M : Type 1} → statement M
 points-listed-spec =

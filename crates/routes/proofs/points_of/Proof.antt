@@ -1,7 +1,7 @@
 -- `routes::points_of`: the reverse list for the reverse lie, else the normal one.
-use Rattle.rules.specs.Rules.{pointsOf}
-use Rattle.laws.specs.Tests.{cond-t, cond-f}
 use mathlib.Core.Path.{sym, _∙_}
+use Rattle.laws.specs.Tests.{cond-t, cond-f}
+use Rattle.plan.specs.Routes.{pointsOf}
 use borrow.Author.Needs.{needs}
 use Rattle.routes.proofs.points_of.Statement.{statement}
 use Rattle.routes.proofs.points_of.Tie as tie

@@ -24,7 +24,11 @@ later-requires c κs = search needs
 
 returns-2 : tie.Need-returns-2
 unfolding releaseFits
-returns-2 c = both-go (c .before .before .before .is-listed .ensures) (not-false _ (c .before .before .if1 .left)) (c .later .ensures ∙ ap (λ (l : List ℕ). later (c .before .before .before .before .args .track) (c .before .before .before .before .args .point) l) (c .before .path-of .ensures))
+returns-2 c =
+    let at-is-listed = c .before .before .before in
+    let start = at-is-listed .before in
+    both-go (at-is-listed .is-listed .ensures) (not-false _ (c .before .before .if1 .left))
+    (c .later .ensures ∙ ap (λ (l : List ℕ). later (start .args .track) (start .args .point) l) (c .before .path-of .ensures))
 
 pub release-fits-spec : {M : Type 1} → statement M
 release-fits-spec =

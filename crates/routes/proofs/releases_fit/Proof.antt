@@ -26,7 +26,11 @@ released-all-requires-2 c κs = search needs
 
 returns-3 : tie.Need-returns-3
 unfolding releasesFit
-returns-3 c = both-go (both-go (c .before .before .before .before .releases-all .ensures) (not-false _ (c .before .before .before .if1 .left)) (c .before .before .released-all .ensures)) (not-false _ (c .before .if2 .left)) (c .released-all2 .ensures)
+returns-3 c =
+    let at-if1 = c .before .before .before in
+    let at-releases-all = at-if1 .before in
+    both-go (both-go (at-releases-all .releases-all .ensures) (not-false _ (at-if1 .if1 .left)) (c .before .before .released-all .ensures))
+    (not-false _ (c .before .if2 .left)) (c .released-all2 .ensures)
 
 pub releases-fit-spec : {M : Type 1} → statement M
 releases-fit-spec =

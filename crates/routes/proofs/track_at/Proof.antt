@@ -1,11 +1,10 @@
 -- `routes::track_at`: the home at 0, the path from 1 on, nothing past its end.
-use Rattle.routes.proofs.Ways.{track-home, track-on, track-beyond}
-use Rattle.rules.specs.Rules.{trackAt}
-use Rattle.plan.specs.Image.{planOf}
-use Rattle.plan.specs.Records.{homeOf}
 use denote.Ref.{now}
 use Prim.Native.Nat.{ℕ}
 use mathlib.Core.Path.{ap, _∙_}
+use Rattle.plan.specs.Records.{homeOf}
+use Rattle.plan.specs.Image.{planOf}
+use Rattle.routes.proofs.Ways.{track-home, track-on, track-beyond}
 use borrow.Author.Needs.{needs}
 use Rattle.routes.proofs.track_at.Statement.{statement}
 use Rattle.routes.proofs.track_at.Tie as tie
@@ -17,7 +16,10 @@ home-of-requires : tie.Need-home-of-requires
 home-of-requires c κs = search needs
 
 returns : tie.Need-returns
-returns c = track-home (planOf (now (c .before .before .before .args .image))) _ (c .home-of .ensures ∙ ap (λ (s : ℕ). homeOf (planOf (now (c .before .before .before .args .image))) s) (c .before .start-of .ensures)) ∙ rw (c .before .before .if1 .taken)
+returns c =
+    let start = c .before .before .before in
+    track-home (planOf (now (start .args .image))) _
+    (c .home-of .ensures ∙ ap (λ (s : ℕ). homeOf (planOf (now (start .args .image))) s) (c .before .start-of .ensures)) ∙ rw (c .before .before .if1 .taken)
 
 path-of-requires : tie.Need-path-of-requires
 path-of-requires c κs = search needs
@@ -35,7 +37,11 @@ wide-requires : tie.Need-wide-requires
 wide-requires c κs = search needs
 
 returns-3 : tie.Need-returns-3
-returns-3 c = track-on (planOf (now (c .before .before .before .before .before .args .image))) _ (c .before .before .before .path-of .ensures) _ (c .before .before .before .before .if1 .left) (c .wide .ensures)
+returns-3 c =
+    let at-path-of = c .before .before .before in
+    let at-if1 = at-path-of .before in
+    let start = at-if1 .before in
+    track-on (planOf (now (start .args .image))) _ (at-path-of .path-of .ensures) _ (at-if1 .if1 .left) (c .wide .ensures)
 
 pub track-at-spec : {M : Type 1} → statement M
 track-at-spec =

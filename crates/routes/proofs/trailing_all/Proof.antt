@@ -1,14 +1,14 @@
 -- `routes::trailing_all`: each trailing point passed is listed by the leg it is entered from.
-use Rattle.laws.specs.Walks.{below-start, below-passed, below-failed, below-done}
-use Rattle.rules.specs.Rules.{trailingListed}
-use Rattle.plan.specs.Image.{planOf}
-use Rattle.laws.specs.Search.{allBelow}
-use Rattle.laws.specs.Tests.{Is}
 use lib.ListN.{length}
 use borrow.Author.Tests.{not-true, not-false}
 use denote.Ref.{now}
 use Prim.Native.Nat.{_-_}
 use mathlib.Core.Path.{sym, _∙_}
+use Rattle.laws.specs.Walks.{below-start, below-passed, below-failed, below-done}
+use Rattle.laws.specs.Search.{allBelow}
+use Rattle.laws.specs.Tests.{Is}
+use Rattle.plan.specs.Image.{planOf}
+use Rattle.rules.specs.Rules.{trailingListed}
 use borrow.Author.Needs.{needs}
 use Rattle.routes.proofs.trailing_all.Statement.{statement}
 use Rattle.routes.proofs.trailing_all.Tie as tie
@@ -29,7 +29,11 @@ trailing-listed-requires : tie.Need-trailing-listed-requires Inv-loop μ-loop
 trailing-listed-requires c κs = rw (c .before .before .path-of .ensures) at (c .loop-test .taken)
 
 returns : tie.Need-returns Inv-loop μ-loop
-returns c = sym (below-failed (trailingListed (planOf (now (c .before .before .before .before .before .args .image))) (c .before .before .before .before .before .args .route)) _ _ (rw (c .before .before .before .before .path-of .ensures) at (c .before .before .loop-test .taken)) (sym (c .before .trailing-listed .ensures) ∙ not-true _ (c .if1 .taken)))
+returns c =
+    let at-path-of = c .before .before .before .before in
+    let start = at-path-of .before in
+    sym (below-failed (trailingListed (planOf (now (start .args .image))) (start .args .route)) _ _
+    (rw (at-path-of .path-of .ensures) at (c .before .before .loop-test .taken)) (sym (c .before .trailing-listed .ensures) ∙ not-true _ (c .if1 .taken)))
 
 add-i : tie.Need-add-i Inv-loop μ-loop
 add-i c = search needs
@@ -41,7 +45,9 @@ loop-again : tie.Need-loop-again Inv-loop μ-loop
 loop-again c = below-passed _ _ (c .before .before .before .loop .inv) (sym (c .before .trailing-listed .ensures) ∙ not-false _ (c .if1 .left))
 
 returns-2 : tie.Need-returns-2 Inv-loop μ-loop
-returns-2 c = sym (below-done (trailingListed (planOf (now (c .before .before .before .args .image))) (c .before .before .before .args .route)) _ _ (c .before .loop .inv) (rw (c .before .before .path-of .ensures) at (c .loop-test .left)))
+returns-2 c =
+    let start = c .before .before .before in
+    sym (below-done (trailingListed (planOf (now (start .args .image))) (start .args .route)) _ _ (c .before .loop .inv) (rw (c .before .before .path-of .ensures) at (c .loop-test .left)))
 
 pub trailing-all-spec : {M : Type 1} → statement M
 trailing-all-spec =

@@ -1,9 +1,9 @@
 -- `routes::wants_lie`: the list for the lie has the point.
-use Rattle.rules.specs.Rules.{wants}
-use Rattle.laws.specs.Lists.{has}
 use Prim.Native.Nat.{ℕ}
 use mathlib.Core.List.{List}
 use mathlib.Core.Path.{ap, _∙_}
+use Rattle.laws.specs.Lists.{has}
+use Rattle.rules.specs.Rules.{wants}
 use borrow.Author.Needs.{needs}
 use Rattle.routes.proofs.wants_lie.Statement.{statement}
 use Rattle.routes.proofs.wants_lie.Tie as tie

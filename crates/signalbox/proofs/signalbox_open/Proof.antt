@@ -6,11 +6,18 @@ use borrow.Author.Needs.{needs}
 use Rattle.signalbox.proofs.signalbox_open.Statement.{statement}
 use Rattle.signalbox.proofs.signalbox_open.Tie as tie
 
-returns : tie.Need-returns
-returns c = no-room (now (c .before .before .before .args .file)) (now (c .before .before .before .args .out)) (c .if1 .taken)
+-- The places, each with the way back to the one before it.
+abbrev start : tie.Else1 → tie.Start
+start c = c .before .before .before
 
-read-requires : tie.Need-read-requires
-read-requires c κs = search needs
+abbrev roomy : tie.After-load → tie.Else1
+roomy c = c .before .before
+
+returns : tie.Need-returns
+returns c = let s = c .before .before .before in no-room (now (s .args .file)) (now (s .args .out)) (c .if1 .taken)
+
+load-requires : tie.Need-load-requires
+load-requires c κs = search needs
 
 enum-known-seen : tie.Need-enum-known-seen
 enum-known-seen c = search needs
@@ -22,7 +29,12 @@ same-length : tie.Need-same-length
 same-length c = search needs
 
 returns-2 : tie.Need-returns-2
-returns-2 c = opened-form (now (c .before .before .before .before .before .before .before .before .before .before .before .before .args .file)) (now (c .before .before .before .before .before .before .before .before .before .before .before .before .args .out)) (c .before .before .before .before .before .before .before .before .before .if1 .left) (unread (now (c .before .before .before .before .before .before .before .before .before .before .before .before .args .file)) _ (c .before .before .before .before .before .before .before .read .ensures) (c .before .before .before .before .before .seen .given .1)) (c .before .before .form-line .ensures)
+returns-2 c =
+    let seen = c .before .before .before .before .before in
+    let l = seen .before .before in
+    let s = start (roomy l) in
+    opened-form (now (s .args .file)) (now (s .args .out)) (roomy l .if1 .left)
+    (unread (now (s .args .file)) _ (l .load .ensures) (seen .seen .given .1)) (c .before .before .form-line .ensures)
 
 enum-told : tie.Need-enum-told
 enum-told c = search needs
@@ -37,14 +49,19 @@ same-length-2 : tie.Need-same-length-2
 same-length-2 c = search needs
 
 returns-3 : tie.Need-returns-3
-returns-3 c = opened-plan (now (c .before .before .before .before .before .before .before .before .before .before .before .before .before .args .file)) (now (c .before .before .before .before .before .before .before .before .before .before .before .before .before .args .out)) (c .before .before .before .before .before .before .before .before .before .before .if1 .left) (was-read (now (c .before .before .before .before .before .before .before .before .before .before .before .before .before .args .file)) _ (c .before .before .before .before .before .before .before .before .read .ensures) (c .before .before .before .before .before .before .enum-told .given .1)) (c .before .before .before .before .check .ensures) (c .before .before .verdict-line .ensures)
+returns-3 c =
+    let told = c .before .before .before .before .before .before in
+    let l = told .before .before in
+    let s = start (roomy l) in
+    opened-plan (now (s .args .file)) (now (s .args .out)) (roomy l .if1 .left)
+    (was-read (now (s .args .file)) _ (l .load .ensures) (told .enum-told .given .1)) (c .before .before .before .before .check .ensures) (c .before .before .verdict-line .ensures)
 
 pub signalbox-open-spec : {M : Type 1} → statement M
 signalbox-open-spec =
     tie.close
     (tie.spec
     returns
-    read-requires
+    load-requires
     enum-known-seen
     form-line-requires
     same-length

@@ -20,8 +20,8 @@ Inv-loop file cells₀ holds₀ events out₀ image count at₀ i₀ cells holds
 abbrev μ-loop : tie.MeasureT-loop
 μ-loop file cells₀ holds₀ events out₀ image count at₀ i₀ cells holds out at i = count - i
 
-read-requires : tie.Need-read-requires Inv-loop μ-loop
-read-requires c κs = search needs
+load-requires : tie.Need-load-requires Inv-loop μ-loop
+load-requires c κs = search needs
 
 enum-told : tie.Need-enum-told Inv-loop μ-loop
 enum-told c = search needs
@@ -33,7 +33,7 @@ returns : tie.Need-returns Inv-loop μ-loop
 returns c =
     let args = c .before .before .before .before .before .before .before .args in
     played-unread answerLine (printMost (length (now (args .out)))) (now (args .file)) (now (args .events)) (stateIn (now (args .cells)) (now (args .holds))) (now (args .out))
-    (unread (now (args .file)) _ (c .before .before .read .ensures) (c .enum-told2 .given .1))
+    (unread (now (args .file)) _ (c .before .before .load .ensures) (c .enum-told2 .given .1))
 
 well-formed-requires : tie.Need-well-formed-requires Inv-loop μ-loop
 well-formed-requires c κs = search needs
@@ -43,7 +43,7 @@ returns-2 c =
     let told = c .before .before .before .before .before in
     let args = told .before .before .before .before .before .before .before .args in
     played-ill answerLine (printMost (length (now (args .out)))) (now (args .file)) (now (args .events)) (stateIn (now (args .cells)) (now (args .holds))) (now (args .out))
-    (was-read (now (args .file)) _ (told .before .before .read .ensures) (told .enum-told .given .1)) (c .before .well-formed .ensures) (c .if1 .taken)
+    (was-read (now (args .file)) _ (told .before .before .load .ensures) (told .enum-told .given .1)) (c .before .well-formed .ensures) (c .if1 .taken)
 
 incomplete-too-requires : tie.Need-incomplete-too-requires Inv-loop μ-loop
 incomplete-too-requires c κs = search needs
@@ -55,7 +55,7 @@ loop-holds : tie.Need-loop-holds Inv-loop μ-loop
 loop-holds c =
     let told = c .before .before .before .before .before .before .before in
     let args = told .before .before .before .before .before .before .before .args in
-    playing-start (was-read (now (args .file)) _ (told .before .before .read .ensures) (told .enum-told .given .1))
+    playing-start (was-read (now (args .file)) _ (told .before .before .load .ensures) (told .enum-told .given .1))
     (print-counted (now (args .events)) (c .before .incomplete-too .ensures) (c .least .ensures)) (c .before .before .before .well-formed .ensures) (c .before .before .if1 .left)
 
 mul-event-at : tie.Need-mul-event-at Inv-loop μ-loop
@@ -78,8 +78,12 @@ loop-less c = search needs
 
 loop-again : tie.Need-loop-again Inv-loop μ-loop
 loop-again c =
-    let e = c .before .before .before .before .before .event-at .ensures in
-    playing-turn (c .before .before .before .before .before .before .before .before .before .before .loop .inv) (c .before .before .before .before .before .before .before .before .before .loop-test .taken) answer-most (rw e at (c .before .before .before .before .play .ensures .0)) (rw e at (c .before .before .before .before .play .ensures .1)) (c .before .before .answer-line .ensures)
+    let at-play = c .before .before .before .before in
+    let at-event-at = at-play .before in
+    let at-loop-test = at-event-at .before .before .before .before in
+    let at-loop = at-loop-test .before in
+    let e = at-event-at .event-at .ensures in
+    playing-turn (at-loop .loop .inv) (at-loop-test .loop-test .taken) answer-most (rw e at (at-play .play .ensures .0)) (rw e at (at-play .play .ensures .1)) (c .before .before .answer-line .ensures)
 
 same-length : tie.Need-same-length Inv-loop μ-loop
 same-length c = playing-same (c .before .loop .inv)
@@ -93,7 +97,7 @@ signalbox-print-spec =
     (tie.spec
     Inv-loop
     μ-loop
-    read-requires
+    load-requires
     enum-told
     enum-told-2
     returns

@@ -18,8 +18,8 @@ Inv-loop file cells₀ holds₀ events answers₀ image count i₀ cells holds a
 abbrev μ-loop : tie.MeasureT-loop
 μ-loop file cells₀ holds₀ events answers₀ image count i₀ cells holds answers i = count - i
 
-read-requires : tie.Need-read-requires Inv-loop μ-loop
-read-requires c κs = search needs
+load-requires : tie.Need-load-requires Inv-loop μ-loop
+load-requires c κs = search needs
 
 enum-told : tie.Need-enum-told Inv-loop μ-loop
 enum-told c = search needs
@@ -31,7 +31,7 @@ returns : tie.Need-returns Inv-loop μ-loop
 returns c =
     let args = c .before .before .before .before .before .before .before .args in
     played-unread codeOf (runMost (now (args .events)) (length (now (args .answers)))) (now (args .file)) (now (args .events)) (stateIn (now (args .cells)) (now (args .holds))) (now (args .answers))
-    (unread (now (args .file)) _ (c .before .before .read .ensures) (c .enum-told2 .given .1))
+    (unread (now (args .file)) _ (c .before .before .load .ensures) (c .enum-told2 .given .1))
 
 well-formed-requires : tie.Need-well-formed-requires Inv-loop μ-loop
 well-formed-requires c κs = search needs
@@ -41,7 +41,7 @@ returns-2 c =
     let told = c .before .before .before .before .before in
     let args = told .before .before .before .before .before .before .before .args in
     played-ill codeOf (runMost (now (args .events)) (length (now (args .answers)))) (now (args .file)) (now (args .events)) (stateIn (now (args .cells)) (now (args .holds))) (now (args .answers))
-    (was-read (now (args .file)) _ (told .before .before .read .ensures) (told .enum-told .given .1)) (c .before .well-formed .ensures) (c .if1 .taken)
+    (was-read (now (args .file)) _ (told .before .before .load .ensures) (told .enum-told .given .1)) (c .before .well-formed .ensures) (c .if1 .taken)
 
 least-requires : tie.Need-least-requires Inv-loop μ-loop
 least-requires c κs = search needs
@@ -50,7 +50,7 @@ loop-holds : tie.Need-loop-holds Inv-loop μ-loop
 loop-holds c =
     let told = c .before .before .before .before .before .before in
     let args = told .before .before .before .before .before .before .before .args in
-    playing-start (was-read (now (args .file)) _ (told .before .before .read .ensures) (told .enum-told .given .1)) (run-counted (now (args .events)) (c .least .ensures))
+    playing-start (was-read (now (args .file)) _ (told .before .before .load .ensures) (told .enum-told .given .1)) (run-counted (now (args .events)) (c .least .ensures))
     (c .before .before .well-formed .ensures) (c .before .if1 .left)
 
 mul-event-at : tie.Need-mul-event-at Inv-loop μ-loop
@@ -66,7 +66,11 @@ answer-code-requires : tie.Need-answer-code-requires Inv-loop μ-loop
 answer-code-requires c κs = search needs
 
 mul-answers : tie.Need-mul-answers Inv-loop μ-loop
-mul-answers c = omega (arith, playing-room (c .before .before .before .before .before .before .before .loop .inv) (c .before .before .before .before .before .before .loop-test .taken) .0, c .before .before .before .before .before .before .before .before .before .before .before .before .before .before .before .before .before .before .before .before .before .good .1 .1 .1 .1 .0 .1)
+mul-answers c =
+    let at-loop-test = c .before .before .before .before .before .before in
+    let at-loop = at-loop-test .before in
+    let start = at-loop .before .before .before .before .before .before .before .before .before .before .before .before .before .before in
+    omega (arith, playing-room (at-loop .loop .inv) (at-loop-test .loop-test .taken) .0, start .good .1 .1 .1 .1 .0 .1)
 
 slice-write-answers : tie.Need-slice-write-answers Inv-loop μ-loop
 slice-write-answers c = omega (arith, playing-room (c .before .before .before .before .before .before .before .loop .inv) (c .before .before .before .before .before .before .loop-test .taken) .0)
@@ -96,7 +100,7 @@ signalbox-run-spec =
     (tie.spec
     Inv-loop
     μ-loop
-    read-requires
+    load-requires
     enum-told
     enum-told-2
     returns

@@ -2,8 +2,6 @@
 use Rattle.plan.specs.Image.{planOf}
 use denote.Ref.{now}
 use Rattle.checking.proofs.Cleared.{entry-clear-read}
-use Rattle.rules.specs.Rules.{entryClear}
-use mathlib.Core.Path.{_≡_}
 use borrow.Author.Needs.{needs}
 use Rattle.checking.proofs.entries.entry_cleared.Statement.{statement}
 use Rattle.checking.proofs.entries.entry_cleared.Tie as tie

@@ -1,16 +1,15 @@
 -- `checking::tracks::none_leads`: none of the tracks passed leads there.
-use Rattle.laws.specs.Walks.{below-start, below-passed, below-failed, below-done}
-use Rattle.laws.specs.Chains.{same-not}
-use Rattle.rules.specs.Rules.{noneLeads}
-use Rattle.plan.specs.Layout.{leads}
-use Rattle.plan.specs.Image.{planOf}
-use Rattle.laws.specs.Search.{allBelow}
-use Rattle.laws.specs.Tests.{Is}
-use lib.ListN.{length}
 use denote.Ref.{now}
 use Prim.Native.Nat.{_-_}
-use mathlib.Core.Bool.{Bool, not}
-use mathlib.Core.Path.{_≡_, sym, ap, _∙_}
+use mathlib.Core.Bool.{not}
+use mathlib.Core.Path.{sym, _∙_}
+use Rattle.laws.specs.Walks.{below-start, below-passed, below-failed, below-done}
+use Rattle.laws.specs.Chains.{same-not}
+use Rattle.laws.specs.Search.{allBelow}
+use Rattle.laws.specs.Tests.{Is}
+use Rattle.plan.specs.Layout.{leads}
+use Rattle.plan.specs.Image.{planOf}
+use Rattle.rules.specs.Rules.{noneLeads}
 use borrow.Author.Needs.{needs}
 use Rattle.checking.proofs.tracks.none_leads.Statement.{statement}
 use Rattle.checking.proofs.tracks.none_leads.Tie as tie
@@ -32,7 +31,11 @@ leads-to-requires c κs = search needs
 
 returns : tie.Need-returns Inv-loop μ-loop
 unfolding noneLeads
-returns c = sym (below-failed (λ w. not (leads (planOf (now (c .before .before .before .before .before .args .image))) w (c .before .before .before .before .before .args .to))) _ _ (rw (c .before .before .before .before .tracks .ensures) at (c .before .before .loop-test .taken)) (same-not (sym (c .before .leads-to .ensures) ∙ c .if1 .taken)))
+returns c =
+    let at-tracks = c .before .before .before .before in
+    let start = at-tracks .before in
+    sym (below-failed (λ w. not (leads (planOf (now (start .args .image))) w (start .args .to))) _ _
+    (rw (at-tracks .tracks .ensures) at (c .before .before .loop-test .taken)) (same-not (sym (c .before .leads-to .ensures) ∙ c .if1 .taken)))
 
 add-from : tie.Need-add-from Inv-loop μ-loop
 add-from c = search needs
@@ -45,7 +48,9 @@ loop-again c = below-passed _ _ (c .before .before .before .loop .inv) (same-not
 
 returns-2 : tie.Need-returns-2 Inv-loop μ-loop
 unfolding noneLeads
-returns-2 c = sym (below-done (λ w. not (leads (planOf (now (c .before .before .before .args .image))) w (c .before .before .before .args .to))) _ _ (c .before .loop .inv) (rw (c .before .before .tracks .ensures) at (c .loop-test .left)))
+returns-2 c =
+    let start = c .before .before .before in
+    sym (below-done (λ w. not (leads (planOf (now (start .args .image))) w (start .args .to))) _ _ (c .before .loop .inv) (rw (c .before .before .tracks .ensures) at (c .loop-test .left)))
 
 pub none-leads-spec : {M : Type 1} → statement M
 none-leads-spec =

@@ -1,9 +1,9 @@
 -- `tests::busy_track`: what is found from the place on is what is found from the start.
-use mathlib.Core.Path.{_≡_, sym, _∙_}
 use Prim.Native.Nat.{_-_}
+use mathlib.Core.Path.{_≡_, sym, _∙_}
 use Rattle.laws.specs.Search.{lowest, lowestFrom, lowest-start, lowest-hit, lowest-miss, lowest-end}
-use Rattle.events.specs.Decide.{busy, busyTrack}
 use Rattle.state.specs.Cells.{trainsIn}
+use Rattle.events.specs.Decide.{busy, busyTrack}
 use borrow.Author.Needs.{needs}
 use Rattle.decide.proofs.tests.busy_track.Statement.{statement}
 use Rattle.decide.proofs.tests.busy_track.Tie as tie

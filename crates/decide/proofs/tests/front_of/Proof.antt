@@ -1,10 +1,10 @@
 -- `tests::front_of`: what is found from the place on is what is found from the start.
-use mathlib.Core.Path.{_≡_, sym, _∙_}
 use Prim.Native.Nat.{_-_}
-use Rattle.laws.specs.Search.{lowest, lowestFrom, lowest-start, lowest-hit, lowest-miss, lowest-end}
+use mathlib.Core.Path.{_≡_, sym, _∙_}
 use borrow.Author.Tests.{eq-eqb, ne-eqb}
-use Rattle.events.specs.Decide.{stands}
+use Rattle.laws.specs.Search.{lowest, lowestFrom, lowest-start, lowest-hit, lowest-miss, lowest-end}
 use Rattle.state.specs.Cells.{trainsIn}
+use Rattle.events.specs.Decide.{stands}
 use borrow.Author.Needs.{needs}
 use Rattle.decide.proofs.tests.front_of.Statement.{statement}
 use Rattle.decide.proofs.tests.front_of.Tie as tie

@@ -27,7 +27,10 @@ has-requires-2 : tie.Need-has-requires-2
 has-requires-2 c κs = search needs
 
 returns-3 : tie.Need-returns-3
-returns-3 c = c .has2 .ensures ∙ held-reverse _ _ _ _ (sym (c .before .before .before .before .is-empty .ensures) ∙ c .before .before .before .if1 .left) (sym (c .before .before .has .ensures) ∙ c .before .if2 .left)
+returns-3 c =
+    let at-if1 = c .before .before .before in
+    let at-is-empty = at-if1 .before in
+    c .has2 .ensures ∙ held-reverse _ _ _ _ (sym (at-is-empty .is-empty .ensures) ∙ at-if1 .if1 .left) (sym (c .before .before .has .ensures) ∙ c .before .if2 .left)
 
 pub held-listed-spec : {M : Type 1} → statement M
 held-listed-spec =

@@ -1,6 +1,6 @@
 -- `tests::held_point`: what is found from the place on is what is found from the start.
-use mathlib.Core.Path.{_≡_, sym, _∙_}
 use Prim.Native.Nat.{_-_}
+use mathlib.Core.Path.{_≡_, sym, _∙_}
 use Rattle.laws.specs.Search.{lowest, lowestFrom, lowest-start, lowest-hit, lowest-miss, lowest-end}
 use Rattle.events.specs.Decide.{heldListed, heldPoint}
 use borrow.Author.Needs.{needs}

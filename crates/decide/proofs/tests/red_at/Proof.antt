@@ -2,7 +2,7 @@
 use mathlib.Core.Path.{sym, _∙_}
 use native.Mathlib.Omega.{arith}
 use denote.Ref.{now}
-use Rattle.state.proofs.Tests.{signals-most}
+use Rattle.plan.proofs.View.{signals-most}
 use Rattle.decide.proofs.Cells.{red-none, red-shown, red-green}
 use Rattle.decide.proofs.Within.{signal-within}
 use borrow.Author.Needs.{needs}
@@ -22,7 +22,10 @@ returns : tie.Need-returns
 returns c = red-none _ _ _ (c .before .before .signal-at .ensures) (c .enum-told .given .1)
 
 shown-at-requires : tie.Need-shown-at-requires
-shown-at-requires c κs = omega (arith, signal-within _ _ (sym (c .before .before .before .signal-at .ensures) ∙ c .before .found .given .1), signals-most (now (c .before .before .before .before .args .image)))
+shown-at-requires c κs =
+    let at-signal-at = c .before .before .before in
+    let start = at-signal-at .before in
+    omega (arith, signal-within _ _ (sym (at-signal-at .signal-at .ensures) ∙ c .before .found .given .1), signals-most (now (start .args .image)))
 
 returns-2 : tie.Need-returns-2
 returns-2 c = red-shown _ _ _ (c .before .before .before .before .before .signal-at .ensures) (c .before .before .before .found .given .1) (rw (c .before .shown-at .ensures) at (c .if1 .taken))

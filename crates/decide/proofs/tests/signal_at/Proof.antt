@@ -1,6 +1,6 @@
 -- `tests::signal_at`: what is found from the place on is what is found from the start.
-use mathlib.Core.Path.{_≡_, sym, _∙_}
 use Prim.Native.Nat.{_-_}
+use mathlib.Core.Path.{_≡_, sym, _∙_}
 use lib.Dec.{eqb}
 use Rattle.laws.specs.Search.{lowestFrom, lowest-start, lowest-hit, lowest-miss, lowest-end}
 use borrow.Author.Tests.{eq-eqb, ne-eqb}

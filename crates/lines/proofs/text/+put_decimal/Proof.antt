@@ -80,7 +80,9 @@ put-decimal-slice-write-out-2 : (t : ℕ) → put-decimal-lts.Need-slice-write-o
   put-decimal-below t,
   put-decimal.Post,
 ) (put-decimal-at t) put-decimal.Post
-put-decimal-slice-write-out-2 t c = let s = c .before .before .before .before .before .before in last-room (s .fits .n .fits) (c .before .before .before .before .if1 .left) (s .pre .1) (c .before .before .put-decimal .ensures)
+put-decimal-slice-write-out-2 t c =
+    let s = c .before .before .before .before .before .before in
+    last-room (s .fits .n .fits) (c .before .before .before .before .if1 .left) (s .pre .1) (c .before .before .put-decimal .ensures)
 
 put-decimal-add-result-2 : (t : ℕ) → put-decimal-lts.Need-add-result-2 (
   put-decimal-below t,
@@ -98,7 +100,9 @@ put-decimal-returns-2 : (t : ℕ) → put-decimal-lts.Need-returns-2 (
   put-decimal-below t,
   put-decimal.Post,
 ) (put-decimal-at t) put-decimal.Post
-put-decimal-returns-2 t c = let s = c .before .before .before .before .before .before in wrote-last (s .fits .n .fits) (c .before .before .before .before .if1 .left) (s .pre .1) (c .before .before .put-decimal .ensures)
+put-decimal-returns-2 t c =
+    let s = c .before .before .before .before .before .before in
+    wrote-last (s .fits .n .fits) (c .before .before .before .before .if1 .left) (s .pre .1) (c .before .before .put-decimal .ensures)
 
 pub +put-decimal-spec : {M : Type 1} → statement M
 +put-decimal-spec = close μ-put-decimal λ t. put-decimal-lts.spec (

@@ -11,7 +11,11 @@ put-number-requires : tie.Need-put-number-requires
 put-number-requires c κs = search needs
 
 put-end-requires : tie.Need-put-end-requires
-put-end-requires c κs = let s = c .before .before .before .before .before .before .before in let h = room-after (now (s .args .word)) (s .args .n) 1 (le-refl _) (c .before .before .before .put-number .ensures) (s .pre) in omega arith
+put-end-requires c κs =
+    let at-put-number = c .before .before .before in
+    let s = at-put-number .before .before .before .before in
+    let h = room-after (now (s .args .word)) (s .args .n) 1 (le-refl _) (at-put-number .put-number .ensures) (s .pre) in
+    omega arith
 
 same-length : tie.Need-same-length
 same-length c = search needs

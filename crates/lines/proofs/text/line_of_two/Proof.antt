@@ -1,10 +1,10 @@
 -- `line_of_two`: the first word and its number leave room for a line of the second.
-use Rattle.lines.proofs.Runs.{wrote-then, room-after}
 use Prim.Native.Nat.{_+_}
 use lib.ListN.{length}
 use denote.Ref.{now}
-use Rattle.lines.specs.Decimal.{numberMost}
 use native.Mathlib.Nat.{le-refl}
+use Rattle.lines.specs.Decimal.{numberMost}
+use Rattle.lines.proofs.Runs.{wrote-then, room-after}
 use borrow.Author.Needs.{needs}
 use Rattle.lines.proofs.text.line_of_two.Statement.{statement}
 use Rattle.lines.proofs.text.line_of_two.Tie as tie
@@ -13,7 +13,10 @@ put-number-requires : tie.Need-put-number-requires
 put-number-requires c κs = search needs
 
 line-of-one-requires : tie.Need-line-of-one-requires
-line-of-one-requires c κs = let s = c .before .before .before .before .before .before .before .before in room-after (now (s .args .word)) (s .args .n) (length (now (s .args .second)) + numberMost + 1) (le-refl _) (c .before .before .before .put-number .ensures) (s .pre)
+line-of-one-requires c κs =
+    let at-put-number = c .before .before .before in
+    let s = at-put-number .before .before .before .before .before in
+    room-after (now (s .args .word)) (s .args .n) (length (now (s .args .second)) + numberMost + 1) (le-refl _) (at-put-number .put-number .ensures) (s .pre)
 
 same-length : tie.Need-same-length
 same-length c = search needs

@@ -1,7 +1,5 @@
 -- `plan::image::entry_clear`: the list at its offset in the entry's record, which lies within the image; beyond the count there is none.
 use mathlib.Core.Path.{_∙_, ap}
-use mathlib.Core.List.{List}
-use Prim.Native.Nat.{ℕ}
 use native.Mathlib.Omega.{arith}
 use denote.Ref.{now}
 use Rattle.plan.specs.Records.{Entry}

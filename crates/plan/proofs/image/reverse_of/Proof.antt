@@ -1,5 +1,5 @@
 -- `plan::image::reverse_of`: the list at the reverse points' offset in the route's record.
-use mathlib.Core.Path.{_≡_, refl, _∙_}
+use mathlib.Core.Path.{refl, _∙_}
 use denote.Ref.{now}
 use Rattle.plan.specs.Limits.{mostPoints, reverseAt}
 use Rattle.plan.specs.Records.{Route}

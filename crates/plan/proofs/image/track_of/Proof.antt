@@ -1,4 +1,5 @@
 -- `plan::image::track_of`: the four bytes at the offset of the track, which the image shows; beyond the count it shows none.
+use mathlib.Core.Path.{_∙_}
 use native.Mathlib.Omega.{arith}
 use denote.Ref.{now}
 use Rattle.plan.specs.Image.{trackIn}
@@ -10,8 +11,13 @@ use Rattle.plan.proofs.image.track_of.Tie as tie
 tracks-requires : tie.Need-tracks-requires
 tracks-requires c κs = search needs
 
+no-track-requires : tie.Need-no-track-requires
+no-track-requires c κs = search needs
+
 returns : tie.Need-returns
-returns c = track-beyond (now (c .before .before .args .image)) _ (rw (c .before .tracks .ensures) at (c .if1 .taken))
+returns c =
+    let beyond = c .before in
+    c .no-track .ensures ∙ track-beyond (now (beyond .before .before .args .image)) _ (rw (beyond .before .tracks .ensures) at (beyond .if1 .taken))
 
 add-at : tie.Need-add-at
 add-at c = search needs
@@ -52,6 +58,7 @@ track-of-spec =
     tie.close
     (tie.spec
     tracks-requires
+    no-track-requires
     returns
     add-at
     mul-at

@@ -3,8 +3,8 @@ use native.Mathlib.Omega.{arith}
 use mathlib.Core.Path.{sym}
 use borrow.Author.Needs.{needs}
 use Rattle.laws.specs.Sets.{member-shifted}
-use Rattle.state.proofs.Holds.{member-beyond}
 use Rattle.state.specs.Holds.{room}
+use Rattle.state.proofs.Holds.{member-beyond}
 use Rattle.state.proofs.HoldSet.has.Statement.{statement}
 use Rattle.state.proofs.HoldSet.has.Tie as tie
 

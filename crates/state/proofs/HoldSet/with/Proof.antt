@@ -3,8 +3,8 @@ use native.Mathlib.Omega.{arith}
 use mathlib.Core.Path.{sym, _∙_}
 use borrow.Author.Needs.{needs}
 use Rattle.laws.specs.Sets.{including-same, including-add, including-lt, one-shifted}
-use Rattle.state.proofs.Holds.{adding-there, adding-beyond}
 use Rattle.state.specs.Holds.{room}
+use Rattle.state.proofs.Holds.{adding-there, adding-beyond}
 use Rattle.state.proofs.HoldSet.with.Statement.{statement}
 use Rattle.state.proofs.HoldSet.with.Tie as tie
 

@@ -2,8 +2,8 @@
 use native.Mathlib.Omega.{arith}
 use mathlib.Core.Path.{sym}
 use borrow.Author.Needs.{needs}
-use Rattle.state.proofs.Holds.{within-shifted, within-room}
 use Rattle.state.specs.Holds.{room}
+use Rattle.state.proofs.Holds.{within-shifted, within-room}
 use Rattle.state.proofs.HoldSet.within.Statement.{statement}
 use Rattle.state.proofs.HoldSet.within.Tie as tie
 

@@ -3,8 +3,8 @@ use native.Mathlib.Omega.{arith}
 use mathlib.Core.Path.{sym, _∙_}
 use borrow.Author.Needs.{needs}
 use Rattle.laws.specs.Sets.{excluding-same, excluding-add, one-shifted}
-use Rattle.state.proofs.Holds.{member-room}
 use Rattle.state.specs.Holds.{room}
+use Rattle.state.proofs.Holds.{member-room}
 use Rattle.state.proofs.HoldSet.without.Statement.{statement}
 use Rattle.state.proofs.HoldSet.without.Tie as tie
 

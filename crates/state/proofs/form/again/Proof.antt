@@ -1,6 +1,5 @@
 -- `form::again`: no train is on no other track; any other is looked for on the tracks after its own.
-use native.Mathlib.Omega.{arith}
-use mathlib.Core.Path.{sym, ap, _∙_}
+use mathlib.Core.Path.{sym, _∙_}
 use Rattle.laws.specs.Lists.{has}
 use Rattle.state.proofs.Tests.{again-none, again-later}
 use borrow.Author.Needs.{needs}

@@ -1,8 +1,6 @@
 -- `form::green_names`: red names nothing; green names the route below what is shown, which must be there and start at the signal.
-use native.Mathlib.Omega.{arith}
-use mathlib.Core.Path.{sym, ap, _∙_}
+use mathlib.Core.Path.{sym}
 use denote.Ref.{now}
-use lib.Dec.{eqb}
 use Rattle.plan.specs.Image.{planOf}
 use Rattle.state.proofs.Tests.{names-red, names-none, names-start}
 use borrow.Author.Needs.{needs}

@@ -1,17 +1,16 @@
 -- `form::greens_name`: each signal passed is red, or green for a route that starts there.
-use mathlib.Core.Path.{_≡_, sym, _∙_}
-use Prim.Native.Nat.{_-_, _≤_}
+use mathlib.Core.Path.{sym, _∙_}
+use Prim.Native.Nat.{_≤_, _-_}
 use native.Mathlib.Omega.{arith}
-use lib.ListN.{length}
 use denote.Ref.{now}
 use Rattle.laws.specs.Tests.{Is, not-t, not-f}
 use Rattle.laws.specs.Search.{allBelow}
-use Rattle.plan.specs.Image.{planOf}
-use Rattle.state.proofs.Tests.{signals-most}
-use Rattle.state.specs.State.{namedAt, greensName}
-use Rattle.state.proofs.Tests.{named-shown}
 use Rattle.laws.specs.Walks.{below-start, below-passed, below-failed, below-done}
+use Rattle.plan.specs.Image.{planOf}
+use Rattle.plan.proofs.View.{signals-most}
+use Rattle.state.specs.State.{namedAt, greensName}
 use Rattle.state.specs.Cells.{signalsIn}
+use Rattle.state.proofs.Tests.{named-shown}
 use borrow.Author.Needs.{needs}
 use Rattle.state.proofs.form.greens_name.Statement.{statement}
 use Rattle.state.proofs.form.greens_name.Tie as tie

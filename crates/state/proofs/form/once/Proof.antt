@@ -1,13 +1,13 @@
 -- `form::once`: each track passed has a train that stands on no later one.
-use mathlib.Core.Path.{_≡_, sym, _∙_}
+use mathlib.Core.Path.{sym, _∙_}
 use mathlib.Core.Bool.{not}
-use Prim.Native.Nat.{_-_, _≤_}
+use Prim.Native.Nat.{_≤_, _-_}
 use native.Mathlib.Omega.{arith}
 use lib.ListN.{length}
 use Rattle.laws.specs.Tests.{Is, not-i}
 use Rattle.laws.specs.Search.{allBelow}
-use Rattle.state.specs.State.{again, once}
 use Rattle.laws.specs.Walks.{below-start, below-passed, below-failed, below-done}
+use Rattle.state.specs.State.{again, once}
 use Rattle.state.proofs.Walks.{not-passes}
 use borrow.Author.Needs.{needs}
 use Rattle.state.proofs.form.once.Statement.{statement}

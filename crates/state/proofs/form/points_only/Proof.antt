@@ -1,15 +1,14 @@
 -- `form::points_only`: each track passed is a point or is neither reverse nor held.
-use mathlib.Core.Path.{_≡_, sym, _∙_}
-use Prim.Native.Nat.{_-_, _≤_}
+use mathlib.Core.Path.{sym, _∙_}
+use Prim.Native.Nat.{_≤_, _-_}
 use native.Mathlib.Omega.{arith}
-use lib.ListN.{length}
 use denote.Ref.{now}
 use Rattle.laws.specs.Tests.{Is, not-t, not-f}
 use Rattle.laws.specs.Search.{allBelow}
+use Rattle.laws.specs.Walks.{below-start, below-passed, below-failed, below-done}
 use Rattle.plan.specs.Image.{planOf}
 use Rattle.plan.proofs.View.{tracks-most}
 use Rattle.state.specs.State.{pointOr, pointsOnly}
-use Rattle.laws.specs.Walks.{below-start, below-passed, below-failed, below-done}
 use Rattle.state.specs.Cells.{liesIn}
 use borrow.Author.Needs.{needs}
 use Rattle.state.proofs.form.points_only.Statement.{statement}

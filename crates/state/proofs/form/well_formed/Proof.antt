@@ -1,7 +1,8 @@
 -- `form::well_formed`: the nine tests in order; the first that fails answers, and the last answers for all.
-use Rattle.state.proofs.Formed.{fail-trains, fail-trainsEnd, fail-liesEnd, fail-holdsEnd, fail-signalsEnd, fail-routesEnd, fail-points, fail-greens, last-lies}
 use mathlib.Core.Path.{ap, _∙_}
-use Rattle.state.specs.State.{once, emptyFrom, liesKnown}
+use Rattle.laws.specs.Lists.{emptyFrom}
+use Rattle.state.specs.State.{once, liesKnown}
+use Rattle.state.proofs.Formed.{fail-trains, fail-trainsEnd, fail-liesEnd, fail-holdsEnd, fail-signalsEnd, fail-routesEnd, fail-points, fail-greens, last-lies}
 use borrow.Author.Needs.{needs}
 use Rattle.state.proofs.form.well_formed.Statement.{statement}
 use Rattle.state.proofs.form.well_formed.Tie as tie
@@ -72,10 +73,11 @@ greens-name-requires c κs = search needs
 returns-8 : tie.Need-returns-8
 returns-8 c = fail-greens _ _ _ (c .before .greens-name .ensures) (c .if8 .taken)
 
-lies-known-requires : tie.Need-lies-known-requires
-lies-known-requires c κs = search needs
+all-below-requires : tie.Need-all-below-requires
+all-below-requires c κs = search needs
 
 returns-9 : tie.Need-returns-9
+unfolding liesKnown
 returns-9 c =
     let greens = c .before in
     let points = greens .before .before in
@@ -97,7 +99,7 @@ returns-9 c =
     (routes .before .all-within .ensures) (routes .if6 .left)
     (points .before .points-only .ensures) (points .if7 .left)
     (greens .before .greens-name .ensures) (greens .if8 .left)
-    (c .lies-known .ensures ∙ ap liesKnown (lies-are .lies-of .ensures))
+    (c .all-below .ensures ∙ ap liesKnown (lies-are .lies-of .ensures))
 
 pub well-formed-spec : {M : Type 1} → statement M
 well-formed-spec =
@@ -125,5 +127,5 @@ well-formed-spec =
     returns-7
     greens-name-requires
     returns-8
-    lies-known-requires
+    all-below-requires
     returns-9)

@@ -1,7 +1,0 @@
-pub mod Lists
-pub mod Meaning
-pub mod Scanned
-pub mod Sections
-pub mod Bench
-pub mod Sound
-pub mod Whole
