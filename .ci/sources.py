@@ -216,10 +216,10 @@ def named(call, path, uses, found):
     return []
 
 
-# The files of the crates whose constants are sizes: the limits and what is computed from them, the cells of a state; the room for a line, and the
-# program's buffers.
+# The files of the crates whose constants are sizes: the limits and what is computed from them, the cells of a state; the cells of an unfinished
+# event, the room for a line, and the program's buffers.
 LIMITS = ('plan/src/limits.rt', 'state/src/cells.rt')
-SIZES = (*LIMITS, 'lines/src/lib.rt', 'bench/src/main.rt')
+SIZES = (*LIMITS, 'events/src/unfinished.rt', 'lines/src/lib.rt', 'bench/src/main.rt')
 
 
 def constants(root, files):

@@ -7,12 +7,23 @@ use crate::model::reading::{self, Fault, Form};
 use crate::model::rules::{self, Broken};
 use crate::model::state::{Arrays, State};
 use crate::model::step;
-use crate::subject::{Lent, Prepared, Subject, LINE};
+use crate::subject::{unfinished, Kept, Lent, Prepared, Reason, Subject, EVENT, LINE};
 use std::fmt::Display;
 use std::io::Write;
 
 /// A plan as the calls for many events are given it: the form of one that cannot be read.
 pub type Readable<'a> = Result<&'a Plan, Form>;
+
+/// What a call for many events is given besides what is kept.
+#[derive(Clone, Copy)]
+pub struct Asked<'a> {
+    pub plan: Readable<'a>,
+    pub bytes: &'a [u8],
+    pub room: usize,
+}
+
+/// A call for many events: it writes answers, or bytes of their lines.
+pub type Call<T> = fn(&Book, &Asked, &mut Kept) -> Lent<T>;
 
 #[derive(Clone, Copy)]
 pub struct Book {
@@ -22,24 +33,27 @@ pub struct Book {
     pub load: fn(&mut State, &Plan, &Arrays) -> bool,
     pub step: fn(&Plan, &mut State, &[u8]) -> Answer,
     pub step_arrays: fn(&Book, &Plan, &mut Arrays, &[u8], &mut State) -> Answer,
-    pub run: fn(&Book, &[u8], &[u8]) -> Vec<u8>,
-    /// Many events at once, for their answers and for their lines.
-    pub run_list: fn(&Book, Readable, &mut Arrays, &[u8], usize) -> Lent<Answer>,
-    pub print_list: fn(&Book, Readable, &mut Arrays, &[u8], usize) -> Lent<u8>,
+    pub whole: fn(&Book, &[u8], &[u8]) -> Vec<u8>,
+    pub fresh: fn(&mut Kept),
+    pub run: Call<Answer>,
+    pub feed: Call<u8>,
+    pub finish: Call<u8>,
     /// The line for the plan.
     pub open: fn(Verdict, usize) -> Lent<u8>,
 }
 
-/// The document.
+/// The document, and the face of the box.
 pub const MODEL: Book = Book {
     read: reading::read,
     check: rules::check,
     load: State::load,
     step: step::step,
     step_arrays: Book::any_step,
-    run: Book::whole_run,
-    run_list: Book::any_run,
-    print_list: Book::any_print,
+    whole: Book::whole_run,
+    fresh: |memory| *memory = Kept::fresh(),
+    run: Book::any_run,
+    feed: Book::any_feed,
+    finish: Book::any_finish,
     open: Book::opening,
 };
 
@@ -51,8 +65,9 @@ impl Book {
         }
     }
 
-    /// An event on arrays: 10 comes before everything else that can be said of it. The spare
-    /// state is a place to work in, so that no call has to make one.
+    /// An event on arrays, of which the first three bytes count: 10 comes before everything else
+    /// that can be said of it. The spare state is a place to work in, so that no call has to make
+    /// one.
     pub fn any_step(
         &self,
         plan: &Plan,
@@ -63,7 +78,7 @@ impl Book {
         if !(self.load)(spare, plan, arrays) {
             return Answer::Refused(Refusal::NotWellFormed);
         }
-        let answer = (self.step)(plan, spare, event);
+        let answer = (self.step)(plan, spare, &event[..event.len().min(EVENT)]);
         spare.store(arrays);
         answer
     }
@@ -81,66 +96,105 @@ impl Book {
         print_line(&mut lines, self.verdict(&plan));
         let mut state = State::fresh(&plan);
         // The last chunk may be shorter than three bytes: an incomplete event.
-        for event in events.chunks(3) {
+        for event in events.chunks(EVENT) {
             print_line(&mut lines, (self.step)(&plan, &mut state, event));
         }
         lines
     }
 
-    /// Plays events one by one from the state that the arrays show, if they show one.
-    pub fn play<'e>(
+    /// The state to play in, or why nothing can be played: the first two reasons in their order.
+    pub fn admitted<'a>(
         &self,
-        plan: Readable,
-        arrays: &mut Arrays,
-        events: impl Iterator<Item = &'e [u8]>,
-        mut tell: impl FnMut(Answer),
-    ) {
-        let Ok(plan) = plan else { return };
+        plan: Readable<'a>,
+        arrays: &Arrays,
+    ) -> Result<(&'a Plan, State), Reason> {
+        let plan = plan.map_err(Reason::Unreadable)?;
         let mut state = State::fresh(plan);
-        if !(self.load)(&mut state, plan, arrays) {
-            return;
+        match (self.load)(&mut state, plan, arrays) {
+            true => Ok((plan, state)),
+            false => Err(Reason::NotWellFormed),
         }
+    }
+
+    /// Plays events one by one. Whoever comes this far plays them all.
+    pub fn play<'e, T: Copy>(
+        &self,
+        (plan, mut state): (&Plan, State),
+        events: impl Iterator<Item = &'e [u8]>,
+        kept: &mut Kept,
+        lent: &mut Lent<T>,
+        write: fn(&mut Lent<T>, Answer),
+    ) {
         for event in events {
-            tell((self.step)(plan, &mut state, event));
+            write(lent, (self.step)(plan, &mut state, event));
         }
-        state.store(arrays);
+        state.store(&mut kept.state);
     }
 
-    /// A whole event takes one answer.
-    pub fn any_run(
-        &self,
-        plan: Readable,
-        arrays: &mut Arrays,
-        events: &[u8],
-        room: usize,
-    ) -> Lent<Answer> {
-        let mut answers = Lent::untouched(room);
-        let played = events.chunks_exact(3).take(room);
-        self.play(plan, arrays, played, |answer| answers.write(answer));
-        answers
+    /// Every event takes one answer, an incomplete last one too.
+    fn try_run(&self, asked: &Asked, kept: &mut Kept) -> Result<Lent<Answer>, Reason> {
+        let stage = self.admitted(asked.plan, &kept.state)?;
+        let events = asked.bytes.chunks(EVENT);
+        enough(asked.room, events.len())?;
+        let mut answers = Lent::untouched(asked.room);
+        self.play(stage, events, kept, &mut answers, Lent::write);
+        Ok(answers)
     }
 
-    /// An event, whole or not, is counted one line.
-    pub fn any_print(
+    /// What was begun and these bytes, as far as they are whole events, and to their end where the
+    /// input has ended. Every event is counted one line.
+    fn try_lines(
         &self,
-        plan: Readable,
-        arrays: &mut Arrays,
-        events: &[u8],
-        room: usize,
-    ) -> Lent<u8> {
-        let mut lines = Lent::untouched(room);
-        let played = events.chunks(3).take(room / LINE);
-        self.play(plan, arrays, played, |answer| put_line(&mut lines, answer));
-        lines
+        asked: &Asked,
+        kept: &mut Kept,
+        has_ended: bool,
+    ) -> Result<Lent<u8>, Reason> {
+        let stage = self.admitted(asked.plan, &kept.state)?;
+        let begun = kept.begun().ok_or(Reason::NotWellFormed)?;
+        let bytes = [begun, asked.bytes].concat();
+        let left_over = if has_ended { 0 } else { bytes.len() % EVENT };
+        let (played, left_over) = bytes.split_at(bytes.len() - left_over);
+        let events = played.chunks(EVENT);
+        enough(asked.room / LINE, events.len())?;
+        let mut lines = Lent::untouched(asked.room);
+        self.play(stage, events, kept, &mut lines, put_line);
+        kept.unfinished = unfinished(left_over);
+        Ok(lines)
+    }
+
+    pub fn any_run(&self, asked: &Asked, kept: &mut Kept) -> Lent<Answer> {
+        or_refused(asked, self.try_run(asked, kept))
+    }
+
+    pub fn any_feed(&self, asked: &Asked, kept: &mut Kept) -> Lent<u8> {
+        or_refused(asked, self.try_lines(asked, kept, false))
+    }
+
+    pub fn any_finish(&self, asked: &Asked, kept: &mut Kept) -> Lent<u8> {
+        or_refused(asked, self.try_lines(asked, kept, true))
     }
 
     pub fn opening(verdict: Verdict, room: usize) -> Lent<u8> {
-        let mut line = Lent::untouched(room);
-        if room >= LINE {
-            put_line(&mut line, verdict);
+        if room < LINE {
+            return Lent::refused(room, Reason::NoRoom);
         }
+        let mut line = Lent::untouched(room);
+        put_line(&mut line, verdict);
         line
     }
+}
+
+/// The last reason.
+fn enough(room: usize, needed: usize) -> Result<(), Reason> {
+    if room < needed {
+        Err(Reason::NoRoom)
+    } else {
+        Ok(())
+    }
+}
+
+fn or_refused<T: Copy>(asked: &Asked, outcome: Result<Lent<T>, Reason>) -> Lent<T> {
+    outcome.unwrap_or_else(|reason| Lent::refused(asked.room, reason))
 }
 
 /// A line into lent memory.
@@ -168,8 +222,12 @@ impl Subject for Book {
         })
     }
 
+    fn fresh(&self, memory: &mut Kept) {
+        (self.fresh)(memory)
+    }
+
     fn run(&self, plan: &[u8], events: &[u8]) -> Vec<u8> {
-        (self.run)(self, plan, events)
+        (self.whole)(self, plan, events)
     }
 }
 
@@ -179,11 +237,13 @@ struct OpenBook<'a> {
 }
 
 impl OpenBook<'_> {
-    fn readable(&self) -> Readable<'_> {
-        self.plan
-            .as_ref()
-            .map(|(_, plan)| plan)
-            .map_err(|form| *form)
+    fn asked<'a>(&'a self, bytes: &'a [u8], room: usize) -> Asked<'a> {
+        let plan = self.plan.as_ref();
+        Asked {
+            plan: plan.map(|(_, plan)| plan).map_err(|form| *form),
+            bytes,
+            room,
+        }
     }
 }
 
@@ -202,12 +262,16 @@ impl Prepared for OpenBook<'_> {
         }
     }
 
-    fn run(&mut self, state: &mut Arrays, events: &[u8], room: usize) -> Lent<Answer> {
-        (self.book.run_list)(self.book, self.readable(), state, events, room)
+    fn run(&mut self, kept: &mut Kept, events: &[u8], room: usize) -> Lent<Answer> {
+        (self.book.run)(self.book, &self.asked(events, room), kept)
     }
 
-    fn print(&mut self, state: &mut Arrays, events: &[u8], room: usize) -> Lent<u8> {
-        (self.book.print_list)(self.book, self.readable(), state, events, room)
+    fn feed(&mut self, kept: &mut Kept, bytes: &[u8], room: usize) -> Lent<u8> {
+        (self.book.feed)(self.book, &self.asked(bytes, room), kept)
+    }
+
+    fn finish(&mut self, kept: &mut Kept, room: usize) -> Lent<u8> {
+        (self.book.finish)(self.book, &self.asked(&[], room), kept)
     }
 
     fn open(&mut self, room: usize) -> Lent<u8> {

@@ -9,24 +9,53 @@ use crate::model::plan::{MOST_SIGNALS, MOST_TRACKS};
 use crate::model::reading::Form;
 use crate::model::rules::Broken;
 use crate::model::state::Arrays;
-use crate::subject::{Lent, Prepared, Subject, LINE, PAST};
-
-/// A state as the box is lent it: trains, lies and signals one after the other, and the holds.
-#[repr(C)]
-struct State {
-    cells: [u8; CELLS],
-    holds: [u64; HOLDS],
-}
+use crate::subject::{Kept, Lent, Prepared, Reason, Subject, EVENT, LINE, PAST};
 
 /// Where the lies and the signals start among the cells, and how many cells there are; trains start at 0.
 pub const LIES: usize = MOST_TRACKS;
 pub const SIGNALS: usize = LIES + MOST_TRACKS;
 pub const CELLS: usize = SIGNALS + MOST_SIGNALS;
 pub const HOLDS: usize = MOST_TRACKS;
+pub const UNFINISHED: usize = EVENT;
+
+/// What the box is lent of what a host keeps: trains, lies and signals one after the other, the holds, and the
+/// unfinished event. A fence stands around each, so that a write beside it is noticed.
+#[repr(C)]
+struct State {
+    fence: u64,
+    cells: [u8; CELLS],
+    fence_of_cells: u64,
+    holds: [u64; HOLDS],
+    fence_of_holds: u64,
+    unfinished: [u8; UNFINISHED],
+    fence_of_unfinished: [u8; 5],
+}
+
+const FENCE: u64 = 0xA5A5_5A5A_C3C3_3C3C;
+const LAST_FENCE: [u8; 5] = [0xA5, 0x5A, 0xC3, 0x3C, 0x99];
+
+/// What a call says that does all or nothing.
+#[repr(C)]
+struct Outcome {
+    code: u64,
+    written: usize,
+}
+
+impl Outcome {
+    /// What was written, as far as it can have been.
+    fn of<'a>(&self, out: &'a [u8]) -> &'a [u8] {
+        &out[..self.written.min(out.len())]
+    }
+}
 
 // A slice passes as a pointer and a length, an array as a pointer.
 #[link(name = "signalbox", kind = "static")]
 extern "C" {
+    fn signalbox_fresh(
+        cells: &mut [u8; CELLS],
+        holds: &mut [u64; HOLDS],
+        unfinished: &mut [u8; UNFINISHED],
+    );
     fn signalbox_read(file: *const u8, length: usize) -> u64;
     fn signalbox_check(file: *const u8, length: usize) -> u64;
     fn signalbox_step(
@@ -46,33 +75,68 @@ extern "C" {
         events_length: usize,
         answers: *mut u64,
         room: usize,
-    ) -> usize;
-    fn signalbox_open(file: *const u8, length: usize, out: *mut u8, room: usize) -> usize;
-    fn signalbox_print(
+    ) -> Outcome;
+    fn signalbox_open(file: *const u8, length: usize, out: *mut u8, room: usize) -> Outcome;
+    fn signalbox_feed(
         file: *const u8,
         length: usize,
         cells: &mut [u8; CELLS],
         holds: &mut [u64; HOLDS],
-        events: *const u8,
-        events_length: usize,
+        unfinished: &mut [u8; UNFINISHED],
+        bytes: *const u8,
+        bytes_length: usize,
         out: *mut u8,
         room: usize,
-    ) -> usize;
+    ) -> Outcome;
+    fn signalbox_finish(
+        file: *const u8,
+        length: usize,
+        cells: &mut [u8; CELLS],
+        holds: &mut [u64; HOLDS],
+        unfinished: &mut [u8; UNFINISHED],
+        out: *mut u8,
+        room: usize,
+    ) -> Outcome;
+}
+
+/// Calls the box with a plan and, where it takes them, with the named arrays of a state, with bytes and with memory to
+/// be written.
+macro_rules! call {
+    ($function:ident, $plan:expr $(, $state:ident: $($array:ident)+)? $(; $($bytes:ident)+)? $(=> $out:ident)?) => {
+        // Safety: all that is lent is lent for the call alone, slices with their lengths, and overlaps nothing.
+        unsafe {
+            $function(
+                $plan.as_ptr(),
+                $plan.len(),
+                $($(&mut $state.$array,)+)?
+                $($($bytes.as_ptr(), $bytes.len(),)+)?
+                $($out.as_mut_ptr(), $out.len(),)?
+            )
+        }
+    };
 }
 
 impl State {
-    fn of(arrays: &Arrays) -> Self {
+    fn of(arrays: &Arrays, unfinished: [u8; UNFINISHED]) -> Self {
         let mut cells = [0; CELLS];
         cells[..LIES].copy_from_slice(&arrays.trains);
         cells[LIES..SIGNALS].copy_from_slice(&arrays.lies);
         cells[SIGNALS..].copy_from_slice(&arrays.signals);
         State {
+            fence: FENCE,
             cells,
+            fence_of_cells: FENCE,
             holds: arrays.holds,
+            fence_of_holds: FENCE,
+            unfinished,
+            fence_of_unfinished: LAST_FENCE,
         }
     }
 
     fn give_back(&self, arrays: &mut Arrays) {
+        let fences = [self.fence, self.fence_of_cells, self.fence_of_holds];
+        let is_whole = fences == [FENCE; 3] && self.fence_of_unfinished == LAST_FENCE;
+        assert!(is_whole, "the box wrote beside the state that it was lent");
         arrays.trains.copy_from_slice(&self.cells[..LIES]);
         arrays.lies.copy_from_slice(&self.cells[LIES..SIGNALS]);
         arrays.signals.copy_from_slice(&self.cells[SIGNALS..]);
@@ -80,11 +144,20 @@ impl State {
     }
 }
 
-/// A call that plays events from a state; the arrays then hold the state after them.
+/// A call that is lent a state; the arrays then hold the state after it.
 fn played<R>(arrays: &mut Arrays, call: impl FnOnce(&mut State) -> R) -> R {
-    let mut state = State::of(arrays);
+    let mut state = State::of(arrays, [0; UNFINISHED]);
     let result = call(&mut state);
     state.give_back(arrays);
+    result
+}
+
+/// A call that is lent all that a host keeps.
+fn lending<R>(kept: &mut Kept, call: impl FnOnce(&mut State) -> R) -> R {
+    let mut state = State::of(&kept.state, kept.unfinished);
+    let result = call(&mut state);
+    state.give_back(&mut kept.state);
+    kept.unfinished = state.unfinished;
     result
 }
 
@@ -93,15 +166,21 @@ fn lend<T: Copy + PartialEq, U>(
     room: usize,
     mark: fn(usize) -> T,
     meaning: fn(T) -> U,
-    call: impl FnOnce(&mut [T]) -> usize,
+    call: impl FnOnce(&mut [T]) -> Outcome,
 ) -> Lent<U> {
     let mut cells: Vec<T> = (0..room + PAST).map(mark).collect();
-    let count = call(&mut cells[..room]);
+    let outcome = call(&mut cells[..room]);
     let touched = |(at, &cell): (usize, &T)| (cell != mark(at)).then(|| meaning(cell));
     Lent {
-        count,
+        reason: reason(outcome.code),
+        count: outcome.written,
         cells: cells.iter().enumerate().map(touched).collect(),
     }
+}
+
+/// Lends memory for lines.
+fn lend_bytes(room: usize, call: impl FnOnce(&mut [u8]) -> Outcome) -> Lent<u8> {
+    lend(room, byte_mark, |byte| byte, call)
 }
 
 /// No byte of a line is above 127.
@@ -114,51 +193,44 @@ fn code_mark(at: usize) -> u64 {
     !(at as u64)
 }
 
-/// The line for the plan.
-fn open(plan: &[u8], out: &mut [u8]) -> usize {
-    // Safety: both slices are lent for the call alone, with their lengths, and overlap nothing.
-    unsafe { signalbox_open(plan.as_ptr(), plan.len(), out.as_mut_ptr(), out.len()) }
-}
-
-/// The lines of events, in one call.
-fn print(plan: &[u8], arrays: &mut Arrays, events: &[u8], out: &mut [u8]) -> usize {
-    // Safety: the slices are lent for the call alone, with their lengths, and overlap nothing.
-    played(arrays, |state| unsafe {
-        signalbox_print(
-            plan.as_ptr(),
-            plan.len(),
-            &mut state.cells,
-            &mut state.holds,
-            events.as_ptr(),
-            events.len(),
-            out.as_mut_ptr(),
-            out.len(),
-        )
-    })
-}
-
 pub struct Boxed;
+
+/// How much of the input a whole run feeds at a time: no whole number of events.
+const PIECE: usize = 4096;
 
 impl Subject for Boxed {
     fn read(&self, plan: &[u8]) -> Option<Form> {
-        // Safety: the slice is lent for the call alone, with its length.
-        form(unsafe { signalbox_read(plan.as_ptr(), plan.len()) })
+        form(call!(signalbox_read, plan))
     }
 
     fn prepare<'a>(&'a self, plan: &'a [u8]) -> Box<dyn Prepared + 'a> {
         Box::new(Open { plan })
     }
 
+    fn fresh(&self, memory: &mut Kept) {
+        lending(memory, |state| {
+            // Safety: the arrays are lent for the call alone and overlap nothing.
+            unsafe {
+                signalbox_fresh(&mut state.cells, &mut state.holds, &mut state.unfinished);
+            }
+        });
+    }
+
+    /// As a host would do it, with one buffer for all lines.
     fn run(&self, plan: &[u8], events: &[u8]) -> Vec<u8> {
-        let mut lines = vec![0; LINE];
-        let first = open(plan, &mut lines);
-        lines.truncate(first);
-        if self.read(plan).is_none() {
-            let mut out = vec![0; events.len().div_ceil(3) * LINE];
-            let written = print(plan, &mut Arrays::fresh(), events, &mut out);
-            out.truncate(written);
-            lines.append(&mut out);
-        }
+        let mut kept = Kept::fresh();
+        self.fresh(&mut kept);
+        let mut out = vec![0; (PIECE / EVENT + 1) * LINE];
+        let said = call!(signalbox_open, plan => out);
+        let mut lines = said.of(&out).to_vec();
+        lending(&mut kept, |state| {
+            for bytes in events.chunks(PIECE) {
+                let said = call!(signalbox_feed, plan, state: cells holds unfinished; bytes => out);
+                lines.extend(said.of(&out));
+            }
+            let said = call!(signalbox_finish, plan, state: cells holds unfinished => out);
+            lines.extend(said.of(&out));
+        });
         lines
     }
 }
@@ -170,8 +242,7 @@ struct Open<'a> {
 
 impl Prepared for Open<'_> {
     fn check(&mut self) -> Verdict {
-        // Safety: the slice is lent for the call alone, with its length.
-        let code = unsafe { signalbox_check(self.plan.as_ptr(), self.plan.len()) };
+        let code = call!(signalbox_check, self.plan);
         match form(code) {
             Some(form) => Verdict::Unreadable(form),
             None if code == 200 => Verdict::Accepted,
@@ -182,48 +253,52 @@ impl Prepared for Open<'_> {
         }
     }
 
-    fn step(&mut self, state: &mut Arrays, event: &[u8]) -> Answer {
-        // Safety: the slices are lent for the call alone, with their lengths, and overlap nothing.
-        answer(played(state, |state| unsafe {
-            signalbox_step(
-                self.plan.as_ptr(),
-                self.plan.len(),
-                &mut state.cells,
-                &mut state.holds,
-                event.as_ptr(),
-                event.len(),
-            )
-        }))
+    fn step(&mut self, arrays: &mut Arrays, event: &[u8]) -> Answer {
+        answer(played(
+            arrays,
+            |state| call!(signalbox_step, self.plan, state: cells holds; event),
+        ))
     }
 
-    fn run(&mut self, arrays: &mut Arrays, events: &[u8], room: usize) -> Lent<Answer> {
+    fn run(&mut self, kept: &mut Kept, events: &[u8], room: usize) -> Lent<Answer> {
         lend(room, code_mark, answer, |answers| {
-            // Safety: the slices are lent for the call alone, with their lengths, and overlap nothing.
-            played(arrays, |state| unsafe {
-                signalbox_run(
-                    self.plan.as_ptr(),
-                    self.plan.len(),
-                    &mut state.cells,
-                    &mut state.holds,
-                    events.as_ptr(),
-                    events.len(),
-                    answers.as_mut_ptr(),
-                    answers.len(),
-                )
-            })
+            played(
+                &mut kept.state,
+                |state| call!(signalbox_run, self.plan, state: cells holds; events => answers),
+            )
         })
     }
 
-    fn print(&mut self, arrays: &mut Arrays, events: &[u8], room: usize) -> Lent<u8> {
-        let same = |byte| byte;
-        lend(room, byte_mark, same, |out| {
-            print(self.plan, arrays, events, out)
+    fn feed(&mut self, kept: &mut Kept, bytes: &[u8], room: usize) -> Lent<u8> {
+        lend_bytes(room, |out| {
+            lending(
+                kept,
+                |state| call!(signalbox_feed, self.plan, state: cells holds unfinished; bytes => out),
+            )
+        })
+    }
+
+    fn finish(&mut self, kept: &mut Kept, room: usize) -> Lent<u8> {
+        lend_bytes(room, |out| {
+            lending(
+                kept,
+                |state| call!(signalbox_finish, self.plan, state: cells holds unfinished => out),
+            )
         })
     }
 
     fn open(&mut self, room: usize) -> Lent<u8> {
-        let same = |byte| byte;
-        lend(room, byte_mark, same, |out| open(self.plan, out))
+        lend_bytes(room, |out| call!(signalbox_open, self.plan => out))
+    }
+}
+
+/// Why nothing was done; nothing where all was.
+fn reason(code: u64) -> Option<Reason> {
+    match code {
+        0 => None,
+        6 => Some(Reason::NoRoom),
+        10 => Some(Reason::NotWellFormed),
+        _ => Some(form(code).map_or(Reason::Strange(code), Reason::Unreadable)),
     }
 }
 

@@ -31,6 +31,7 @@ pub fn all() -> Vec<(String, usize)> {
         ("signals-from".to_string(), boxed::SIGNALS),
         ("cells".to_string(), boxed::CELLS),
         ("holds".to_string(), boxed::HOLDS),
+        ("unfinished".to_string(), boxed::UNFINISHED),
     ]);
     sizes
 }

@@ -2,8 +2,8 @@
 
 use second::book::MODEL;
 use second::compare::driver::{self, Search};
-use second::subject::Subject;
-use second::{bench, limits, mutants, sessions};
+use second::subject::{Kept, Lent, Subject, EVENT, LINE};
+use second::{bench, limits, mutants, program, sessions};
 use std::io::{self, Read, Write};
 use std::path::Path;
 use std::process::ExitCode;
@@ -11,6 +11,7 @@ use std::process::ExitCode;
 const USAGE: &str = "usage: second [--long] [--seed N] [--trace]  compare the box with the model
        second --case SEED                  compare one case again
        second --mutants [--seed N]         catch every mutant
+       second --program PATH [--seed N]    compare a program with the model
        second --bench                      print times
        second --limits                     print the sizes that it goes by
        second sessions DIR                 write the session folders
@@ -51,6 +52,10 @@ fn carry_out(words: &[&str]) -> Option<bool> {
     match *words {
         ["--case", seed] => Some(driver::repeat(subject(), seed.parse().ok()?)),
         ["--mutants", ref options @ ..] => Some(mutants::catch_all(search(options)?.seed)),
+        ["--program", path, ref options @ ..] => {
+            let seed = search(options)?.seed;
+            Some(said(seed, program::compare(Path::new(path), seed)))
+        }
         ["--bench"] => {
             bench::bench(other_subject());
             Some(true)
@@ -63,7 +68,10 @@ fn carry_out(words: &[&str]) -> Option<bool> {
         }
         ["sessions", directory] => Some(write_sessions(Path::new(directory))),
         ["run"] => Some(run().is_ok()),
-        _ => Some(compare(&search(words)?)),
+        _ => {
+            let search = search(words)?;
+            Some(said(search.seed, driver::compare(subject(), &search)))
+        }
     }
 }
 
@@ -90,10 +98,10 @@ fn search(mut options: &[&str]) -> Option<Search> {
     }
 }
 
-fn compare(search: &Search) -> bool {
-    let good = driver::compare(subject(), search);
+/// Says how a comparison went.
+fn said(seed: u64, good: bool) -> bool {
     let words = if good { "good" } else { "NOT good" };
-    println!("seed {}: {words}", search.seed);
+    println!("seed {seed}: {words}");
     good
 }
 
@@ -108,11 +116,31 @@ fn write_sessions(directory: &Path) -> bool {
     true
 }
 
-/// The program as the document describes it.
+/// The program as the document describes it: what has come of the input is answered before more
+/// of it is read.
 fn run() -> io::Result<()> {
     // A file that can't be opened counts as empty.
     let plan = std::fs::read("plan.bin").unwrap_or_default();
-    let mut events = Vec::new();
-    io::stdin().read_to_end(&mut events)?;
-    io::stdout().write_all(&MODEL.run(&plan, &events))
+    let mut ready = MODEL.prepare(&plan);
+    let mut kept = Kept::fresh();
+    print(ready.open(LINE))?;
+    if MODEL.read(&plan).is_some() {
+        return Ok(());
+    }
+    let mut buffer = vec![0; 1 << 16];
+    loop {
+        let count = io::stdin().read(&mut buffer)?;
+        if count == 0 {
+            return print(ready.finish(&mut kept, LINE));
+        }
+        let room = count.div_ceil(EVENT) * LINE;
+        print(ready.feed(&mut kept, &buffer[..count], room))?;
+    }
+}
+
+fn print(lines: Lent<u8>) -> io::Result<()> {
+    let bytes: Vec<u8> = lines.written().collect();
+    let mut out = io::stdout().lock();
+    out.write_all(&bytes)?;
+    out.flush()
 }

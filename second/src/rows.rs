@@ -15,7 +15,7 @@ pub fn sessions() -> Vec<Session> {
 }
 
 /// A session of a plan by its sections, and of events with the line of each.
-fn session(
+pub fn session(
     name: &'static str,
     about: &'static str,
     plan: &[&[u8]],

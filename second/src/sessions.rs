@@ -2,6 +2,7 @@
 
 use crate::document::{self, Session, BENCH_PLAN};
 use crate::generate::largest::largest;
+use crate::long;
 use crate::model::plan::LARGEST_FILE;
 use crate::random::Random;
 use crate::rows;
@@ -10,12 +11,14 @@ use std::fs;
 use std::io;
 use std::path::Path;
 
-/// Every session: those of the document, the odd ends of files and event lists, the last rows.
+/// Every session: those of the document, the odd ends of files and event lists, the last rows and
+/// the long ones.
 pub fn all() -> Vec<Session> {
     let mut sessions = document::sessions();
     sessions.extend(odd_plans());
     sessions.extend(odd_endings());
     sessions.extend(rows::sessions());
+    sessions.extend(long::sessions());
     sessions
 }
 

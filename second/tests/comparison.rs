@@ -9,8 +9,9 @@ use second::compare::shrink::shrink;
 use second::compare::trouble::{trouble, Work};
 use second::generate::case::case;
 use second::model::answer::{Answer, Refusal};
+use second::model::state::Arrays;
 use second::mutants;
-use second::subject::Subject;
+use second::subject::{Subject, EVENT};
 
 const SLIPS: [&str; 3] = [
     "a point is released when the train arrives on it",
@@ -99,16 +100,34 @@ fn a_mismatch_is_made_small_and_stays_one() {
 
 #[test]
 fn a_list_of_events_is_made_small_too() {
-    let book = mutant("run plays left-over bytes");
-    let (_, mismatch) = hunt(&book, 1, 300).expect("it is caught");
-    let (plan, work) = shrink(&book, &mismatch.plan, &mismatch.work);
-    assert!(trouble(&book, &plan, &work).is_some());
-    assert!(trouble(&MODEL, &plan, &work).is_none());
-    let Work::List(list) = work else {
+    let Work::List(list) = made_small("run counts no room for an incomplete event") else {
         panic!("only a list of events shows it");
     };
-    assert_eq!((list.answers, list.bytes), (1, 0));
-    assert!(list.events.len() < 3);
+    assert_eq!(list.room, 0);
+    assert!(list.events.len() < EVENT);
+}
+
+#[test]
+fn an_input_in_pieces_is_made_small_too() {
+    let Work::Pieces(session) = made_small("feed loses the bytes of an event begun before") else {
+        panic!("only an input in pieces shows it");
+    };
+    let lengths = session.pieces.iter().map(|piece| piece.bytes.len());
+    assert!(lengths.sum::<usize>() <= EVENT);
+    let Work::Fresh(memory) = made_small("fresh leaves the holds") else {
+        panic!("only the start of a session shows it");
+    };
+    assert_eq!(memory.state.trains, Arrays::fresh().trains);
+}
+
+/// The work on which a mutant still goes wrong when it has been made small.
+fn made_small(name: &str) -> Work {
+    let book = mutant(name);
+    let (_, mismatch) = hunt(&book, 1, 300).expect("it is caught");
+    let (plan, work) = shrink(&book, &mismatch.plan, &mismatch.work);
+    assert!(trouble(&book, &plan, &work).is_some(), "{name}");
+    assert!(trouble(&MODEL, &plan, &work).is_none(), "{name}");
+    work
 }
 
 #[test]

@@ -1,7 +1,7 @@
 //! The document's own examples, against the model.
 
 use second::book::MODEL;
-use second::document::{sessions, BENCH_PLAN};
+use second::document::{sessions, Session, BENCH_PLAN};
 use second::model::plan::{Entry, Lie, Plan, Route, Track};
 use second::model::reading::read;
 use second::model::rules::{check, RULES};
@@ -102,6 +102,41 @@ fn a_row_past_the_last_would_break_a_rule_where_the_exit_is_first() {
     assert_eq!(broken(|plan| plan.homes.push(0)), Some((4, 2)));
     assert_eq!(broken(empty_entry), Some((5, 2)));
     assert_eq!(broken(empty_route), Some((6, 2)));
+}
+
+/// How many events of each long session come first, and the first line that they change besides
+/// their own, counted from 1.
+const LONG: [(&str, usize, usize); 4] = [
+    ("long-train-waits", 1, 4003),
+    ("long-route-granted", 1, 4003),
+    ("long-point-turned", 2, 4807),
+    ("long-train-in-the-loop", 4, 5606),
+];
+
+#[test]
+fn long_sessions_show_their_first_events_at_the_end_and_nowhere_else() {
+    let sessions = second::sessions::all();
+    let is_long = |session: &&Session| session.name.starts_with("long-");
+    assert_eq!(sessions.iter().filter(is_long).count(), LONG.len());
+    for (session, (name, first, changed)) in sessions.iter().filter(is_long).zip(LONG) {
+        assert_eq!(session.name, name);
+        let count = session.events.len() / 3;
+        assert!((3000..=6000).contains(&count), "{name}: {count} events");
+        assert!(count - changed < 10, "{name}");
+        let plan = session.plan.as_ref().expect("there is a plan");
+        let printed = MODEL.run(plan, &session.events[3 * first..]);
+        let printed = String::from_utf8(printed).expect("lines are text");
+        let with = session.expected.lines().skip(1 + first);
+        let mut pairs = printed.lines().skip(1).zip(with);
+        let difference = pairs.position(|(without, with)| without != with);
+        // Lines before it: that of the plan and those of the first events.
+        assert_eq!(
+            difference.map(|place| place + 2 + first),
+            Some(changed),
+            "{name}"
+        );
+        assert!(session.about.contains(&changed.to_string()), "{name}");
+    }
 }
 
 #[test]

@@ -10,6 +10,8 @@ pub mod Agreement
 pub mod Once
 pub mod Verdicts
 pub mod Small
+pub mod Alone
 pub mod Impostors
 pub mod Ours
+pub mod Session
 pub mod Table

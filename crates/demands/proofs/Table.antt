@@ -21,7 +21,8 @@ use Rattle.events.specs.After.{routeSignals, redBehind, newSignals, afterDeed, 
 use Rattle.lines.specs.Decimal.{decimalIn, decimal, valueFrom}
 use Rattle.lines.specs.Lines.{bytesOf, line, refusalWords, harmWords, deedWords, answerWords, tableNumber, answerLine, verdictLine, formLine}
 use Rattle.demands.specs.Demands.{history, reached, onceAt, total, shown as shown-demands}
-use Rattle.demands.specs.Table.{printedOf, printed, bench, table}
+use Rattle.demands.specs.Session.{answersOf, linesOf, firstLine, printed}
+use Rattle.demands.specs.Table.{bench, table}
 
 pub slips : map (λ r. printed (r .file) (r .events)) table ≡ map (λ r. bytesOf (r .text)) table
 unfolding joined emptyFrom tab member including excluding
@@ -37,5 +38,5 @@ unfolding joined emptyFrom tab member including excluding
     stood gone newTrains newLies taken dropped droppedAll arrived routeHolds givenBack newHolds shown reddened routeSignals
     redBehind newSignals afterDeed after nextState
     decimalIn decimal valueFrom bytesOf line refusalWords harmWords deedWords answerWords tableNumber answerLine verdictLine formLine
-    history reached onceAt total shown-demands printedOf printed bench table
+    history reached onceAt total shown-demands answersOf linesOf firstLine printed bench table
 slips = refl

@@ -16,7 +16,7 @@
 --   laws/specs/Lists.antt        All: each element of a list is so; In: a number stands in a list; laws/src/lib.rt: Found; laws/specs/Sets.antt: member, the bits
 --                                of a number (a route holds a point); laws/specs/Tests.antt: Is, a test is passed
 -- Demand 1, always an answer, needs no definition here: the functions of the public face (signalbox/src/lib.rt) ask nothing of their callers, and
--- every function is proved to end.
+-- every function is proved to end. What is printed for any input, however it is cut, and demand 3 from call to call stand in Session.antt.
 -- Signs: `(x : ℕ) → A` for every number x, A; `(x : ℕ) × A` there is a number x with A; `A → B` if A then B; `A × B` both; `A ⊎ B` one of the two;
 -- `A ↔ B` each gives the other; `A → ⊥` not A; `x ≡ y` equal, `x ≢ y` not.
 use mathlib.Core.Path.{_≡_}

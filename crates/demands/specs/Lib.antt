@@ -1,4 +1,5 @@
 pub mod Demands
 pub mod Impostors
 pub mod Ours
+pub mod Session
 pub mod Table

@@ -4,23 +4,6 @@ use Prim.Native.Nat.{ℕ}
 use Prim.Native.String.{String}
 use mathlib.Core.List.{List, [], _∷_, _++_}
 use lib.ListN.{take, set}
-use Rattle.laws.specs.Lists.{joined}
-use Rattle.plan.specs.Records.{Plan}
-use Rattle.reading.specs.Reading.{Got, form, got, parse}
-use Rattle.rules.specs.Verdict.{verdict}
-use Rattle.state.specs.State.{fresh}
-use Rattle.events.specs.Events.{eventsOf}
-use Rattle.lines.specs.Lines.{answerLine, verdictLine, formLine}
-use Rattle.demands.specs.Demands.{history}
-use Rattle.demands.specs.Ours.{ours}
-
--- what the program prints: a line for the plan, and, where it reads, one for each event
-unfoldable pub printedOf : Got Plan → List ℕ → List ℕ
-printedOf (form f) bytes = formLine f
-printedOf (got p at rest) bytes = verdictLine (verdict p) ++ joined answerLine (history ours p fresh (eventsOf bytes))
-
-unfoldable pub printed : List ℕ → List ℕ → List ℕ
-printed file bytes = printedOf (parse file) bytes
 
 pub record Row : Type 0 where
   pub file : List ℕ

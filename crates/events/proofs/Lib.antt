@@ -1,4 +1,5 @@
 pub mod Bytes
+pub mod Pieces
 pub mod Facts
 pub mod Reflect
 pub mod Told

@@ -1,8 +1,10 @@
 // What an event is and what an answer is. The definitions that decide and that say the state after stand in specs/.
+pub mod unfinished;
+
 use lists::wide;
 ghost use mathlib.Core.Path.{_≡_};
-ghost use lib.ListN.{drop};
-ghost use Rattle.events.specs.Events.{eventOf, firstEvent};
+ghost use lib.ListN.{length, drop};
+ghost use Rattle.events.specs.Events.{eventOf, firstEvent, eventsOf};
 
 // The four events, and what is none: an unknown kind, an unused byte that is not 0, or an incomplete last event.
 pub enum Event {
@@ -83,4 +85,15 @@ pub fn event_at(bytes: &[u8], at: usize) -> Event
         return Event::Unknown;
     }
     event_of(bytes[at], bytes[at + 1], bytes[at + 2])
+}
+
+// How many events bytes have, an incomplete last one too.
+pub fn event_count(bytes: &[u8]) -> usize
+    ensures { λ r. ⌜ r ≡ length (eventsOf (now (bytes .entry))) ⌝ }
+{
+    let whole = bytes.len() / 3;
+    if bytes.len() % 3 == 0 {
+        return whole;
+    }
+    whole + 1
 }

@@ -1,6 +1,6 @@
-pub mod Coded
+pub mod Called
 pub mod Faced
+pub mod Feeding
 pub mod Opening
 pub mod Playing
-pub mod Running
 pub mod Same

@@ -1,29 +1,30 @@
--- Playing the events of bytes one by one: the state and what is written are those of the events so far. A run writes codes, printing lines; the
--- loop and its ways out are the same. Assumes nothing.
-use mathlib.Core.Path.{_≡_, refl, sym, ap, _∙_}
-use mathlib.Core.Bool.{Bool, true, false, not}
-use mathlib.Core.Logic.{inl, inr}
+-- Playing events one by one: the state and what is written are those of the events so far. A run writes codes, feeding and finishing write lines;
+-- the reasons against it, the steps and the ways out are the same. Assumes nothing.
+use mathlib.Core.Path.{_≡_, refl, sym, ap, subst, _∙_}
+use mathlib.Core.Bool.{true}
+use mathlib.Core.Logic.{_≢_}
 use mathlib.Core.List.{List, [], _∷_, _++_, append-assoc, append-nil}
-use Prim.Native.Nat.{ℕ, zero, suc, _+_, _-_, _*_, _/_, _%_, _<_, _≤_, min}
+use Prim.Native.Nat.{ℕ, zero, suc, _+_, _-_, _*_, _/_, _<_, _≤_}
 use native.Mathlib.Nat.{zero-add, sub-zero, mul-suc}
 use native.Mathlib.Numerals.{add-one}
 use native.Mathlib.Omega.{arith}
-use lib.ListN.{length, getD, take, drop, set, length-take}
-use lib.Seq.{take-suc, take-all, take-take, take-nil, length-sets}
-use Rattle.laws.specs.Tests.{below?, not-t, not-f}
+use lib.ListN.{length, getD, take, set}
+use lib.Seq.{take-suc, take-all, length-sets}
+use borrow.Author.Tests.{lt-ltb, le-ltb}
 use Rattle.laws.specs.Lists.{joined}
 use Rattle.plan.specs.Records.{Plan}
 use Rattle.plan.specs.File.{Readable}
 use Rattle.plan.specs.Image.{planOf}
-use Rattle.reading.specs.declared.Form.{Form}
-use Rattle.reading.specs.Reading.{form, parse}
+use Rattle.reading.specs.Reading.{Got, form, got, parse}
 use Rattle.state.specs.declared.State.{State}
 use Rattle.state.specs.State.{wellFormed}
 use Rattle.state.proofs.Formed.{formed, passes}
 use Rattle.events.specs.declared.Event.{Event}
 use Rattle.events.specs.declared.Event.the-variants.{Unknown}
+use Rattle.events.specs.declared.Refusal.the-variants.{IllFormed}
 use Rattle.events.specs.declared.Answer.{Answer}
-use Rattle.events.specs.Events.{eventsOf, firstEvent}
+use Rattle.events.specs.declared.Answer.the-variants.{Refused}
+use Rattle.events.specs.Answers.{refusalNumber, refusalValues, answerNumber, answerValues}
 use Rattle.events.specs.Decide.{decided, answer}
 use Rattle.events.specs.After.{after, nextState}
 use Rattle.events.proofs.Kept.{next-formed}
@@ -32,92 +33,109 @@ use Rattle.lines.specs.Written.{Wrote}
 use Rattle.lines.proofs.Runs.{wrote-then, wrote-byte}
 use Rattle.demands.specs.Demands.{history, reached}
 use Rattle.demands.specs.Ours.{ours}
-use Rattle.signalbox.specs.Codes.{answerCode}
-use Rattle.signalbox.specs.Face.{codeOf, playable, runMost, printMost, runState, runAnswers, Carries, Played}
-use Rattle.signalbox.proofs.Faced.{Read, readable-image}
-use Rattle.signalbox.proofs.Running.{reached-more, history-more, when-formed, carried}
+use Rattle.demands.specs.Session.{answersOf, stateAfter, Carries}
+use Rattle.demands.proofs.Session.{reached-append, history-append, goes-on}
+use Rattle.codes.specs.Codes.{packed, answerCode, noRoom}
+use Rattle.signalbox.specs.Face.{firstReason, inTheWay, tooLong, tooMany, runReason, lineReason, unless, codeOf, Played}
+use Rattle.signalbox.proofs.Faced.{Ready, readable-image}
 
--- The events of bytes: how many there are, and the one at a place.
+-- Reasons against it, tried in order.
 
-pub events-length : (bytes : List ℕ) → length (eventsOf bytes) ≡ (length bytes + 2) / 3
-unfolding eventsOf
-events-length [] = refl
-events-length (a ∷ []) = refl
-events-length (a ∷ (b ∷ [])) = refl
-events-length (a ∷ (b ∷ (c ∷ rest))) = let h = events-length rest in omega arith
+first-stops : (n : ℕ) (reasons : List ℕ) → n ≢ 0 → n ≡ firstReason (n ∷ reasons)
+unfolding firstReason
+first-stops zero reasons d = absurd (d refl)
+first-stops (suc n) reasons d = refl
 
-events-at : (bytes : List ℕ) (i : ℕ) → i < length (eventsOf bytes) → getD (eventsOf bytes) i Unknown ≡ firstEvent (drop (3 * i) bytes)
-unfolding eventsOf firstEvent
-events-at [] i h = absurd (omega arith)
-events-at (a ∷ []) zero h = refl
-events-at (a ∷ []) (suc i) h = absurd (omega arith)
-events-at (a ∷ (b ∷ [])) zero h = refl
-events-at (a ∷ (b ∷ [])) (suc i) h = absurd (omega arith)
-events-at (a ∷ (b ∷ (c ∷ rest))) zero h = refl
-events-at (a ∷ (b ∷ (c ∷ rest))) (suc i) h =
-    let e : 3 * suc i ≡ suc (suc (suc (3 * i))) = omega arith in rw e (events-at rest i (omega arith))
+module _ (g : Got Plan) (σ : State) (events : List Event) (room : ℕ) where
+  pub run-stopped : {c : ℕ} → c ≡ inTheWay g σ → c ≢ 0 → c ≡ runReason g σ events room
+  unfolding runReason
+  run-stopped {c} e d = rw (← e) (first-stops c _ d)
 
--- The first n events are those of the first 3n bytes. So the whole ones that a run plays are the events of the bytes without what is left over.
-pub first-events : (n : ℕ) (bytes : List ℕ) → take n (eventsOf bytes) ≡ eventsOf (take (3 * n) bytes)
-unfolding eventsOf
-first-events zero bytes = refl
-first-events (suc n) bytes = let e : 3 * suc n ≡ suc (suc (suc (3 * n))) = omega arith in rw e (go bytes (first-events n))
-  where
-    go : (bytes : List ℕ) → ((rest : List ℕ) → take n (eventsOf rest) ≡ eventsOf (take (3 * n) rest)) → take (suc n) (eventsOf bytes) ≡ eventsOf (take (suc (suc (suc (3 * n)))) bytes)
-    go [] ih = refl
-    go (a ∷ []) ih = rw (take-nil n)
-    go (a ∷ (b ∷ [])) ih = rw (take-nil n)
-    go (a ∷ (b ∷ (c ∷ rest))) ih = rw (ih rest)
+  module _ (f : inTheWay g σ ≡ 0) where
+    pub run-crowded : room < length events → noRoom ≡ runReason g σ events room
+    unfolding runReason firstReason tooMany
+    run-crowded h = rw (f, lt-ltb room (length events) h)
 
--- A run plays every whole event that there is room for, and nothing of what is left over.
-pub run-plays : (bytes : List ℕ) (room : ℕ) → take (runMost bytes room) (eventsOf bytes) ≡ take room (eventsOf (take (3 * (length bytes / 3)) bytes))
-unfolding runMost
-run-plays bytes room = rw (← first-events (length bytes / 3) bytes) (elim (below? room (length bytes / 3)) [
-  | inl h ↦ (let z : min (length bytes / 3) room ≡ room = omega arith in rw z (sym (take-take room (length bytes / 3) (eventsOf bytes) (omega arith))))
-  | inr h ↦ (let z : min (length bytes / 3) room ≡ length bytes / 3 = omega arith in
-      rw z (sym (take-all room (take (length bytes / 3) (eventsOf bytes)) (rw length-take (omega arith)))))
-])
+    pub run-free : length events ≤ room → runReason g σ events room ≡ 0
+    unfolding runReason firstReason tooMany
+    run-free h = rw (f, le-ltb room (length events) h)
 
--- Printing plays as many events as there is room for, each with the longest line, and no fewer.
-pub print-plays : (room : ℕ) → (lineMost * printMost room ≤ room) × (room < lineMost * (printMost room + 1))
-unfolding printMost
-print-plays room = (omega arith, omega arith)
+  module _ (unfinished : List ℕ) where
+    pub line-stopped : {c : ℕ} → c ≡ inTheWay g σ → c ≢ 0 → c ≡ lineReason g σ unfinished events room
+    unfolding lineReason
+    line-stopped {c} e d = rw (← e) (first-stops c _ d)
 
-take-least : (l : List Event) (n : ℕ) → take (min (length l) n) l ≡ take n l
-take-least l n = elim (below? n (length l)) [
-  | inl h ↦ (let z : min (length l) n ≡ n = omega arith in rw z)
-  | inr h ↦ take-all (min (length l) n) l (omega arith) ∙ sym (take-all n l h)
-]
+    module _ (f : inTheWay g σ ≡ 0) where
+      pub line-long : {c : ℕ} → c ≡ answerCode (Refused IllFormed) → 2 < getD unfinished 0 0 → c ≡ lineReason g σ unfinished events room
+      unfolding lineReason firstReason tooLong answerCode packed answerNumber refusalNumber answerValues refusalValues
+      line-long e h = rw (f, lt-ltb 2 (getD unfinished 0 0) h) e
 
--- How many events are played: the first n, as far as there are so many. Each has room for what is written of it.
-pub record Counted (bytes : List ℕ) (n most room count : ℕ) : Type 0 where
-  pub few : count ≤ length (eventsOf bytes)
-  pub fits : most * count ≤ room
-  pub first : take count (eventsOf bytes) ≡ take n (eventsOf bytes)
+      pub line-crowded : getD unfinished 0 0 ≤ 2 → room / lineMost < length events → noRoom ≡ lineReason g σ unfinished events room
+      unfolding lineReason firstReason tooLong tooMany
+      line-crowded k h = rw (f, le-ltb 2 (getD unfinished 0 0) k, lt-ltb (room / lineMost) (length events) h)
 
-module _ (bytes : List ℕ) {room count : ℕ} where
-  pub run-counted : count ≡ min (length bytes / 3) room → Counted bytes (runMost bytes room) 1 room count
-  unfolding runMost
-  run-counted k = let e = events-length bytes in record { few = omega arith; fits = omega arith; first = rw k }
+      pub line-free : getD unfinished 0 0 ≤ 2 → length events ≤ room / lineMost → lineReason g σ unfinished events room ≡ 0
+      unfolding lineReason firstReason tooLong tooMany
+      line-free k h = rw (f, le-ltb 2 (getD unfinished 0 0) k, le-ltb (room / lineMost) (length events) h)
 
-  pub print-counted : {m : ℕ} → m ≡ length (eventsOf bytes) → count ≡ min m (room / lineMost) → Counted bytes (printMost room) lineMost room count
-  unfolding printMost
-  print-counted m k = record { few = omega arith; fits = omega arith; first = rw (k, m) (take-least (eventsOf bytes) (room / lineMost)) }
+-- What is played, and what is then handed back and left.
 
--- how many there are, as the code counts them
-pub count-whole : (bytes : List ℕ) → length bytes % 3 ≡ 0 → length bytes / 3 ≡ length (eventsOf bytes)
-count-whole bytes z = let h = events-length bytes in omega arith
+pub none-kept : {reason : ℕ} {A : Type 0} (x y : A) → reason ≢ 0 → y ≡ unless reason x y
+unfolding unless
+none-kept {reason = zero} x y d = absurd (d refl)
+none-kept {reason = suc n} x y d = refl
 
-pub count-more : (bytes : List ℕ) → (length bytes % 3 ≡ 0 → ⊥) → length bytes / 3 + 1 ≡ length (eventsOf bytes)
-count-more bytes z = let h = events-length bytes in omega arith
+all-kept : {reason : ℕ} {A : Type 0} (x y : A) → reason ≡ 0 → x ≡ unless reason x y
+unfolding unless
+all-kept x y e = rw e
 
-nothing : (out : List ℕ) → Wrote [] out 0 out 0
+pub nothing : (out : List ℕ) → Wrote [] out 0 out 0
 nothing out = record { written = refl; ends = refl; within = omega arith }
+
+none-played : (write : Answer → List ℕ) (g : Got Plan) (σ : State) (out : List ℕ) → (σ ≡ stateAfter g σ []) × Wrote (joined write (answersOf g σ [])) out 0 out 0
+unfolding joined answersOf stateAfter history reached
+none-played write (form f) σ out = (refl, nothing out)
+none-played write (got p at rest) σ out = (refl, nothing out)
+
+module _ (write : Answer → List ℕ) (file : List ℕ) (σ : State) {reason : ℕ} (events : List Event) (out : List ℕ) where
+  these : {c : ℕ} (l : List Event) → l ≡ unless reason events [] → c ≡ reason → {τ : State} {out′ : List ℕ} {n : ℕ} → τ ≡ stateAfter (parse file) σ l
+      → Wrote (joined write (answersOf (parse file) σ l)) out 0 out′ n → Played write (parse file) σ reason events out (record { code = c; written = n }) τ out′
+  these l e k {τ} {out′} {n} s w =
+      let z : τ ≡ stateAfter (parse file) σ (unless reason events []) = s ∙ ap (stateAfter (parse file) σ) e in
+      record {
+        code = k;
+        state = z;
+        written = subst (λ x. Wrote (joined write (answersOf (parse file) σ x)) out 0 out′ n) e w;
+        carries = subst (Carries (parse file) σ (unless reason events [])) (sym z) (goes-on file σ _);
+      }
+
+  pub played-none : {c : ℕ} → c ≡ reason → c ≢ 0 → Played write (parse file) σ reason events out (record { code = c; written = 0 }) σ out
+  played-none e d = let w = none-played write (parse file) σ out in these [] (none-kept events [] (λ z. d (e ∙ z))) e (w .0) (w .1)
+
+  pub played-all : {τ : State} {out′ : List ℕ} {n : ℕ} → reason ≡ 0 → τ ≡ stateAfter (parse file) σ events
+      → Wrote (joined write (answersOf (parse file) σ events)) out 0 out′ n → Played write (parse file) σ reason events out (record { code = 0; written = n }) τ out′
+  played-all e s w = these events (all-kept events [] e) (sym e) s w
+
+-- One event more.
 
 joined-more : (f : Answer → List ℕ) (l : List Answer) (a : Answer) → joined f (l ++ (a ∷ [])) ≡ joined f l ++ f a
 unfolding joined
 joined-more f [] a = append-nil (f a)
 joined-more f (x ∷ l) a = rw (joined-more f l a) (sym (append-assoc (f x) (joined f l) (f a)))
+
+module _ (p : Plan) where
+  reached-more : (σ : State) (a : List Event) (e : Event) → reached ours p σ (a ++ (e ∷ [])) ≡ nextState p (reached ours p σ a) e
+  unfolding reached
+  reached-more σ a e = reached-append p σ a (e ∷ [])
+
+  history-more : (σ : State) (a : List Event) (e : Event) → history ours p σ (a ++ (e ∷ [])) ≡ history ours p σ a ++ (answer p (reached ours p σ a) e ∷ [])
+  unfolding history
+  history-more σ a e = history-append p σ a (e ∷ [])
+
+  -- in a well-formed state the answer is what is decided
+  when-formed : (σ : State) (e : Event) → wellFormed p σ ≡ true → answer p σ e ≡ decided p σ e
+  unfolding answer
+  when-formed σ e f = rw f
 
 -- a code takes one place
 pub short : (a : Answer) → length (codeOf a) ≤ 1
@@ -126,103 +144,88 @@ short a = omega arith
 pub wrote-code : (a : Answer) {code : ℕ} {out : List ℕ} {at : ℕ} → code ≡ answerCode a → at + 1 ≤ length out → Wrote (codeOf a) out at (set out at code) (at + 1)
 wrote-code a {code = code} {out = out} {at = at} e h = rw (← e) (wrote-byte code out at (omega arith))
 
--- What holds where the loop tests: all that is known before it, and of the first i events the state reached and what is written.
-pub record Playing (write : Answer → List ℕ) (n most : ℕ) (file image bytes : List ℕ) (σ₀ : State) (out₀ : List ℕ) (count i : ℕ) (σ : State) (out : List ℕ) (at : ℕ) : Type 0 where
-  pub read : Read file image
-  pub began : wellFormed (planOf image) σ₀ ≡ true
-  pub counted : Counted bytes n most (length out₀) count
+-- What holds after the first i events: all that was known before them, the state reached and what is written. Each of the others has room.
+pub record Playing (write : Answer → List ℕ) (most : ℕ) (file image : List ℕ) (reason : ℕ) (events : List Event) (σ₀ : State) (out₀ : List ℕ) (count i : ℕ) (σ : State) (out : List ℕ) (at : ℕ) : Type 0 where
+  pub ready : Ready file image σ₀
+  pub free : reason ≡ 0
+  pub counted : count ≡ length events
   pub within : i ≤ count
   pub formed : wellFormed (planOf image) σ ≡ true
   pub room : at + most * (count - i) ≤ length out₀
-  pub state : σ ≡ reached ours (planOf image) σ₀ (take i (eventsOf bytes))
-  pub written : Wrote (joined write (history ours (planOf image) σ₀ (take i (eventsOf bytes)))) out₀ 0 out at
+  pub state : σ ≡ reached ours (planOf image) σ₀ (take i events)
+  pub written : Wrote (joined write (history ours (planOf image) σ₀ (take i events))) out₀ 0 out at
 
-pub playing-start : {write : Answer → List ℕ} {n most : ℕ} {file image bytes : List ℕ} {σ₀ : State} {out₀ : List ℕ} {count : ℕ} → Read file image
-    → Counted bytes n most (length out₀) count → {b : Bool} → b ≡ wellFormed (planOf image) σ₀ → not b ≡ false → Playing write n most file image bytes σ₀ out₀ count 0 σ₀ out₀ 0
+pub playing-start : {write : Answer → List ℕ} {most : ℕ} {file image : List ℕ} {reason : ℕ} {events : List Event} {σ₀ : State} {out₀ : List ℕ} {count : ℕ} → Ready file image σ₀
+    → reason ≡ 0 → count ≡ length events → most * count ≤ length out₀ → Playing write most file image reason events σ₀ out₀ count 0 σ₀ out₀ 0
 unfolding joined history reached
-playing-start {out₀ = out₀} w k {b} t f = record {
-  read = w;
-  began = sym t ∙ not-f b f;
+playing-start {out₀ = out₀} w e k h = record {
+  ready = w;
+  free = e;
   counted = k;
   within = omega arith;
-  formed = sym t ∙ not-f b f;
-  room = rw (sub-zero, zero-add) (k .fits);
+  formed = w .formed;
+  room = rw (sub-zero, zero-add) h;
   state = refl;
   written = nothing out₀;
 }
 
-module _ {write : Answer → List ℕ} {n most : ℕ} {file image bytes : List ℕ} {σ₀ : State} {out₀ : List ℕ} {count i : ℕ} {σ : State} {out : List ℕ} {at : ℕ} (l : Playing write n most file image bytes σ₀ out₀ count i σ out at) where
+module _ {write : Answer → List ℕ} {most : ℕ} {file image : List ℕ} {reason : ℕ} {events : List Event} {σ₀ : State} {out₀ : List ℕ} {count i : ℕ} {σ : State} {out : List ℕ} {at : ℕ}
+    (l : Playing write most file image reason events σ₀ out₀ count i σ out at) where
   abbrev p : Plan
   p = planOf image
 
   abbrev done : List Event
-  done = take i (eventsOf bytes)
+  done = take i events
 
   pub playing-readable : Readable p
-  playing-readable = readable-image (l .read)
+  playing-readable = readable-image (l .ready .read)
 
   pub playing-same : length out ≡ length out₀
   playing-same = ap length (l .written .written) ∙ length-sets out₀ 0 (joined write (history ours p σ₀ done))
 
   module _ (h : i < count) where
-    abbrev event : Event
-    event = firstEvent (drop (3 * i) bytes)
-
     left : at + most + most * (count - (i + 1)) ≤ length out₀
     left = let z : count - i ≡ suc (count - (i + 1)) = omega arith in let r = rw (z, mul-suc) at (l .room) in omega arith
 
-    pub playing-room : (at + most ≤ length out) × (3 * i < length bytes)
-    playing-room = let e = events-length bytes in (omega (arith, left, playing-same), omega (arith, l .counted .few))
+    pub playing-room : at + most ≤ length out
+    playing-room = omega (arith, left, playing-same)
 
-    one-more : take (i + 1) (eventsOf bytes) ≡ done ++ (event ∷ [])
-    one-more =
-        let there : i < length (eventsOf bytes) = omega (arith, l .counted .few) in
-        rw (add-one i, ← events-at bytes i there) (take-suc (eventsOf bytes) i Unknown there)
+    pub playing-there : i < length events
+    playing-there = omega (arith, l .counted)
 
-    state-more : nextState p σ event ≡ reached ours p σ₀ (take (i + 1) (eventsOf bytes))
-    state-more = ap (λ (s : State). nextState p s event) (l .state) ∙ sym (ap (reached ours p σ₀) one-more ∙ reached-more p σ₀ done event)
+    module _ {event : Event} (n : event ≡ getD events i Unknown) where
+      one-more : take (i + 1) events ≡ done ++ (event ∷ [])
+      one-more = rw (add-one i, n) (take-suc events i Unknown playing-there)
 
-    written-more : joined write (history ours p σ₀ (take (i + 1) (eventsOf bytes))) ≡ joined write (history ours p σ₀ done) ++ write (answer p σ event)
-    written-more =
-        ap (joined write) (ap (history ours p σ₀) one-more ∙ history-more p σ₀ done event) ∙ joined-more write _ _
-        ∙ ap (λ (s : State). joined write (history ours p σ₀ done) ++ write (answer p s event)) (sym (l .state))
+      state-more : nextState p σ event ≡ reached ours p σ₀ (take (i + 1) events)
+      state-more = ap (λ (s : State). nextState p s event) (l .state) ∙ sym (ap (reached ours p σ₀) one-more ∙ reached-more p σ₀ done event)
 
-    pub playing-turn : ((a : Answer) → length (write a) ≤ most) → {a : Answer} {τ : State} {out′ : List ℕ} {at′ : ℕ} → a ≡ decided p σ event → τ ≡ after p σ (decided p σ event)
-        → Wrote (write a) out at out′ at′ → Playing write n most file image bytes σ₀ out₀ count (i + 1) τ out′ at′
-    unfolding nextState
-    playing-turn short {a} {τ} d t w =
-        let e : decided p σ event ≡ answer p σ event = sym (when-formed p σ event (l .formed)) in
-        let u : τ ≡ nextState p σ event = t ∙ ap (after p σ) e in
-        record {
-          read = l .read;
-          began = l .began;
-          counted = l .counted;
-          within = omega arith;
-          formed = rw u (passes p _ (next-formed p playing-readable σ event (formed p σ (l .formed))));
-          room = omega (arith, w .ends, short a, left);
-          state = u ∙ state-more;
-          written = rw (written-more, ← e, ← d) (wrote-then (l .written) w);
-        }
+      written-more : joined write (history ours p σ₀ (take (i + 1) events)) ≡ joined write (history ours p σ₀ done) ++ write (answer p σ event)
+      written-more =
+          ap (joined write) (ap (history ours p σ₀) one-more ∙ history-more p σ₀ done event) ∙ joined-more write _ _
+          ∙ ap (λ (s : State). joined write (history ours p σ₀ done) ++ write (answer p s event)) (sym (l .state))
 
--- What playing hands back and leaves, in its three ways out.
-module _ (write : Answer → List ℕ) (n : ℕ) (file bytes : List ℕ) (σ : State) (out : List ℕ) where
-  pub played-unread : {f : Form} → parse file ≡ form f → Played write (parse file) σ (playable (parse file) σ n bytes) out 0 σ out
-  unfolding playable runState runAnswers joined Carries
-  played-unread e = rw e (record { state = refl; written = nothing out; carries = tt })
+      pub playing-turn : ((a : Answer) → length (write a) ≤ most) → {a : Answer} {τ : State} {out′ : List ℕ} {at′ : ℕ} → a ≡ decided p σ event → τ ≡ after p σ (decided p σ event)
+          → Wrote (write a) out at out′ at′ → Playing write most file image reason events σ₀ out₀ count (i + 1) τ out′ at′
+      unfolding nextState
+      playing-turn short {a} {τ} d t w =
+          let e : decided p σ event ≡ answer p σ event = sym (when-formed p σ event (l .formed)) in
+          let u : τ ≡ nextState p σ event = t ∙ ap (after p σ) e in
+          record {
+            ready = l .ready;
+            free = l .free;
+            counted = l .counted;
+            within = omega arith;
+            formed = rw u (passes p _ (next-formed p playing-readable σ event (formed p σ (l .formed))));
+            room = omega (arith, w .ends, short a, left);
+            state = u ∙ state-more;
+            written = rw (written-more, ← e, ← d) (wrote-then (l .written) w);
+          }
 
-  pub played-ill : {image : List ℕ} → Read file image → {b : Bool} → b ≡ wellFormed (planOf image) σ → not b ≡ true → Played write (parse file) σ (playable (parse file) σ n bytes) out 0 σ out
-  unfolding playable runState runAnswers joined history reached
-  played-ill w {b} t f =
-      let y : wellFormed (w .plan) σ ≡ false = rw (w .shows) at (sym t ∙ not-t b f) in
-      rw (w .parses, y) (record { state = refl; written = nothing out; carries = carried (w .plan) _ _ (w .readable) σ σ [] refl })
-
-pub played-all : {write : Answer → List ℕ} {n most : ℕ} {file image bytes : List ℕ} {σ₀ : State} {out₀ : List ℕ} {count i : ℕ} {σ : State} {out : List ℕ} {at : ℕ}
-    → Playing write n most file image bytes σ₀ out₀ count i σ out at → count ≤ i → Played write (parse file) σ₀ (playable (parse file) σ₀ n bytes) out₀ at σ out
-unfolding playable runState runAnswers
-played-all {n = n} {bytes = bytes} {σ₀ = σ₀} {count = count} {i = i} {σ = σ} l h =
-    let w = l .read in
-    let y : wellFormed (w .plan) σ₀ ≡ true = rw (w .shows) at (l .began) in
-    let z : i ≡ count = omega (arith, l .within) in
-    let e : take i (eventsOf bytes) ≡ take n (eventsOf bytes) = rw z (l .counted .first) in
-    let s = rw (e, w .shows) at (l .state) in
-    rw (w .parses, y) (record { state = s; written = rw (e, w .shows) at (l .written); carries = carried (w .plan) _ _ (w .readable) σ₀ σ _ s })
+  -- all were played
+  pub playing-end : count ≤ i → Played write (parse file) σ₀ reason events out₀ (record { code = 0; written = at }) σ out
+  unfolding answersOf stateAfter
+  playing-end h =
+      let w = l .ready .read in
+      let e : take i events ≡ events = take-all i events (omega (arith, l .counted)) in
+      played-all write file σ₀ events out₀ (l .free) (rw (w .parses) (rw (e, w .shows) at (l .state))) (rw (w .parses) (rw (e, w .shows) at (l .written)))

@@ -1,38 +1,38 @@
--- One event by `step` and by `run`: the same answer and the same state. A run of many is one after the other by its definition. A run hands back how
--- many events it played. Assumes nothing.
-use mathlib.Core.Path.{_≡_, refl, ap, _∙_}
-use mathlib.Core.Bool.{true}
+-- One event by `step` and by `run`: the same event, the same answer and, both by `stateAfter`, the same state. A run hands back how many events it
+-- played. Assumes nothing.
+use mathlib.Core.Path.{_≡_, refl, sym, ap, _∙_}
 use mathlib.Core.List.{List, [], _∷_}
 use Prim.Native.Nat.{ℕ, suc}
 use native.Mathlib.Nat.{zero-add}
 use lib.ListN.{length}
 use Rattle.laws.specs.Lists.{joined}
 use Rattle.plan.specs.Records.{Plan}
-use Rattle.reading.specs.Reading.{Got, form, got}
+use Rattle.reading.specs.Reading.{got}
 use Rattle.state.specs.declared.State.{State}
-use Rattle.state.specs.State.{wellFormed}
 use Rattle.events.specs.declared.Event.{Event}
 use Rattle.events.specs.Events.{eventsOf, firstEvent}
-use Rattle.demands.specs.Demands.{history, reached}
+use Rattle.demands.specs.Demands.{history}
 use Rattle.demands.specs.Ours.{ours}
-use Rattle.signalbox.specs.Face.{codeOf, stepCode, stepState, playable, runState, runAnswers, Played}
+use Rattle.demands.specs.Session.{answersOf}
+use Rattle.signalbox.specs.declared.Outcome.{Outcome}
+use Rattle.signalbox.specs.Face.{codeOf, stepCode, unless, Ran}
 
-module _ (p : Plan) (at : ℕ) (rest : List ℕ) (σ : State) (f : wellFormed p σ ≡ true) (a b c : ℕ) where
-  pub same-state : runState (got p at rest) σ (playable (got p at rest) σ 1 (a ∷ (b ∷ (c ∷ [])))) ≡ stepState (got p at rest) σ (firstEvent (a ∷ (b ∷ (c ∷ []))))
-  unfolding runState playable eventsOf reached stepState firstEvent
-  same-state = rw f
-
-  pub same-code : joined codeOf (runAnswers (got p at rest) σ (playable (got p at rest) σ 1 (a ∷ (b ∷ (c ∷ []))))) ≡ stepCode (got p at rest) σ (firstEvent (a ∷ (b ∷ (c ∷ [])))) ∷ []
-  unfolding runAnswers playable eventsOf history stepCode firstEvent joined
-  same-code = rw f
+pub same-event : (a b c : ℕ) → eventsOf (a ∷ (b ∷ (c ∷ []))) ≡ firstEvent (a ∷ (b ∷ (c ∷ []))) ∷ []
+unfolding eventsOf firstEvent
+same-event a b c = refl
 
 codes-length : (p : Plan) (σ : State) (events : List Event) → length (joined codeOf (history ours p σ events)) ≡ length events
 unfolding joined history
 codes-length p σ [] = refl
 codes-length p σ (e ∷ events) = ap suc (codes-length p _ events)
 
-pub run-counts : (g : Got Plan) (σ : State) (n : ℕ) (bytes : List ℕ) {out : List ℕ} {r : ℕ} {τ : State} {out′ : List ℕ}
-    → Played codeOf g σ (playable g σ n bytes) out r τ out′ → r ≡ length (playable g σ n bytes)
-unfolding playable runAnswers joined
-run-counts (form f) σ n bytes d = d .written .ends
-run-counts (got p at rest) σ n bytes d = d .written .ends ∙ zero-add _ ∙ codes-length p σ (playable (got p at rest) σ n bytes)
+module _ (p : Plan) (at : ℕ) (rest : List ℕ) (σ : State) where
+  pub same-code : (event : Event) → joined codeOf (answersOf (got p at rest) σ (event ∷ [])) ≡ stepCode (got p at rest) σ event ∷ []
+  unfolding answersOf history stepCode joined
+  same-code event = refl
+
+  pub run-counts : (bytes out : List ℕ) {r : Outcome} {τ : State} {out′ : List ℕ} → Ran (got p at rest) σ bytes out r τ out′ → r .code ≡ 0 → r .written ≡ length (eventsOf bytes)
+  unfolding answersOf unless
+  run-counts bytes out d z =
+      let all : List ℕ → ℕ = λ l. length l in
+      d .written .ends ∙ zero-add _ ∙ ap (λ (n : ℕ). all (joined codeOf (history ours p σ (unless n (eventsOf bytes) [])))) (sym (d .code) ∙ z) ∙ codes-length p σ (eventsOf bytes)

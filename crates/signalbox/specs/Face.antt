@@ -1,28 +1,33 @@
--- What the box does at its public face, for any bytes as a plan, any state and any bytes as events: `step` plays one event, `run` and `print` play
--- many, and differ in which and in what they write of each answer.
-use Prim.Native.Nat.{ℕ, _/_, min}
+-- What the box does at its public face, for any bytes as a plan, any state and any bytes as events: `fresh` begins; `step` plays one event; `run`
+-- and `feed` play many, `finish` what is unfinished, and all of it or nothing: they differ in which events and in what they write of each answer;
+-- `open` writes the line for the plan.
+use Prim.Native.Nat.{ℕ, zero, suc, _/_}
 use mathlib.Core.Path.{_≡_}
 use mathlib.Core.Bool.{cond}
-use mathlib.Core.List.{List, [], _∷_, _++_}
-use lib.ListN.{length, take}
+use mathlib.Core.List.{List, [], _∷_}
+use lib.ListN.{length, getD}
 use lib.Dec.{ltb}
 use Rattle.laws.specs.Lists.{joined}
 use Rattle.plan.specs.Records.{Plan}
 use Rattle.reading.specs.Reading.{Got, form, got}
-use Rattle.rules.specs.declared.Verdict.the-variants.{Accepted}
-use Rattle.rules.specs.Verdict.{verdict}
 use Rattle.state.specs.declared.State.{State}
 use Rattle.state.specs.State.{fresh, wellFormed}
 use Rattle.events.specs.declared.Event.{Event}
+use Rattle.events.specs.declared.Refusal.the-variants.{IllFormed}
 use Rattle.events.specs.declared.Answer.{Answer}
-use Rattle.events.specs.Events.{eventsOf}
+use Rattle.events.specs.declared.Answer.the-variants.{Refused}
+use Rattle.events.specs.Events.{eventsOf, unfinishedIn, unfinishedCells}
 use Rattle.events.specs.Decide.{answer}
-use Rattle.events.specs.After.{nextState}
-use Rattle.lines.specs.Lines.{verdictLine, formLine, lineMost}
+use Rattle.lines.specs.Lines.{lineMost}
 use Rattle.lines.specs.Written.{Wrote}
-use Rattle.demands.specs.Demands.{history, reached, Safe}
-use Rattle.demands.specs.Ours.{ours}
-use Rattle.signalbox.specs.Codes.{answerCode, formCode}
+use Rattle.demands.specs.Session.{answersOf, stateAfter, firstLine, Between, between, due, fed, fedLines, ended, endLines, Carries}
+use Rattle.signalbox.specs.declared.Outcome.{Outcome}
+use Rattle.codes.specs.Codes.{answerCode, formCode, noRoom}
+
+-- The start: the fresh state, and no byte of an event.
+pub record Started (σ : State) (unfinished : List ℕ) : Type 0 where
+  pub state : σ ≡ fresh
+  pub none : unfinished ≡ unfinishedCells []
 
 -- One event. An unreadable plan gives its form, before anything else is looked at.
 
@@ -30,57 +35,89 @@ unfoldable pub stepCode : Got Plan → State → Event → ℕ
 stepCode (form f) σ event = formCode f
 stepCode (got p at rest) σ event = answerCode (answer p σ event)
 
-unfoldable pub stepState : Got Plan → State → Event → State
-stepState (form f) σ event = σ
-stepState (got p at rest) σ event = nextState p σ event
+pub record Stepped (g : Got Plan) (σ : State) (event : Event) (r : ℕ) (τ : State) : Type 0 where
+  pub code : r ≡ stepCode g σ event
+  pub state : τ ≡ stateAfter g σ (event ∷ [])
+  pub carries : Carries g σ (event ∷ []) τ
 
--- Many events: the first n of those that bytes hold. None is played where the plan is unreadable or the state is not well formed.
+-- Why many events are not played, in the order in which it is tried; 0 is no reason.
 
-unfoldable pub playable : Got Plan → State → ℕ → List ℕ → List Event
-playable (form f) σ n bytes = []
-playable (got p at rest) σ n bytes = cond (wellFormed p σ) (take n (eventsOf bytes)) []
+unfoldable pub firstReason : List ℕ → ℕ
+firstReason [] = 0
+firstReason (zero ∷ reasons) = firstReason reasons
+firstReason (suc n ∷ reasons) = suc n
 
--- a run plays the whole ones that there is room for: bytes left over are not played
-unfoldable pub runMost : List ℕ → ℕ → ℕ
-runMost bytes room = min (length bytes / 3) room
+-- the plan is unreadable: its form; the state is not well formed: 10
+unfoldable pub inTheWay : Got Plan → State → ℕ
+inTheWay (form f) σ = formCode f
+inTheWay (got p at rest) σ = cond (wellFormed p σ) 0 (answerCode (Refused IllFormed))
 
--- printing plays as many as there is room for, each with the longest line: bytes left over are an incomplete event
-unfoldable pub printMost : ℕ → ℕ
-printMost room = room / lineMost
+-- an unfinished event is said to have more than two bytes: 10 too
+unfoldable pub tooLong : List ℕ → ℕ
+tooLong unfinished = cond (ltb 2 (getD unfinished 0 0)) (answerCode (Refused IllFormed)) 0
 
-unfoldable pub runState : Got Plan → State → List Event → State
-runState (form f) σ events = σ
-runState (got p at rest) σ events = reached ours p σ events
+-- there is room for fewer than there are: 6
+unfoldable pub tooMany : ℕ → ℕ → ℕ
+tooMany room count = cond (ltb room count) noRoom 0
 
-unfoldable pub runAnswers : Got Plan → State → List Event → List Answer
-runAnswers (form f) σ events = []
-runAnswers (got p at rest) σ events = history ours p σ events
+-- a run writes a code of each answer
+unfoldable pub runReason : Got Plan → State → List Event → ℕ → ℕ
+runReason g σ events room = firstReason (inTheWay g σ ∷ (tooMany room (length events) ∷ []))
 
--- Demand 3 reaches the code: where the plan is accepted and the state at entry is one that some events reach from the fresh state, the state at
--- exit is what those events and then these reach, and demand 3 holds of all their answers.
-unfoldable pub Carries : Got Plan → State → List Event → State → Type 0
-Carries (form f) σ events τ = Unit
-Carries (got p at rest) σ events τ =
-    verdict p ≡ Accepted → (before : List Event) → reached ours p fresh before ≡ σ
-    → (reached ours p fresh (before ++ events) ≡ τ) × Safe p (history ours p fresh before ++ history ours p σ events) τ
+-- feeding and finishing write its line, and each is counted the longest
+unfoldable pub lineReason : Got Plan → State → List ℕ → List Event → ℕ → ℕ
+lineReason g σ unfinished events room = firstReason (inTheWay g σ ∷ (tooLong unfinished ∷ (tooMany (room / lineMost) (length events) ∷ [])))
 
--- What a run writes of an answer: its code. Printing writes its line.
+-- the first where there is no reason against it, the second where there is one
+unfoldable pub unless : {A : Type 0} → ℕ → A → A → A
+unless zero done not = done
+unless (suc n) done not = not
+
+-- what a run writes of an answer
 abbrev pub codeOf : Answer → List ℕ
 codeOf a = answerCode a ∷ []
 
--- What playing events hands back and leaves: what is written of each answer, from the start of the lent buffer on, with the rest as it was, and how
--- much that is; and the state after them.
-pub record Played (write : Answer → List ℕ) (g : Got Plan) (σ : State) (events : List Event) (out : List ℕ) (r : ℕ) (τ : State) (out′ : List ℕ) : Type 0 where
-  pub state : τ ≡ runState g σ events
-  pub written : Wrote (joined write (runAnswers g σ events)) out 0 out′ r
-  pub carries : Carries g σ events τ
+-- What playing many events hands back and leaves: the reason; the state after all of them, or after none; what is written of each answer, from the
+-- start of the lent buffer on, with the rest as it was, and how much that is.
+pub record Played (write : Answer → List ℕ) (g : Got Plan) (σ : State) (reason : ℕ) (events : List Event) (out : List ℕ) (r : Outcome) (τ : State) (out′ : List ℕ) : Type 0 where
+  pub code : r .code ≡ reason
+  pub state : τ ≡ stateAfter g σ (unless reason events [])
+  pub written : Wrote (joined write (answersOf g σ (unless reason events []))) out 0 out′ (r .written)
+  pub carries : Carries g σ (unless reason events []) τ
 
--- The first line says whether the plan is accepted.
+-- a run plays every event of its bytes, an incomplete last one too
+abbrev pub Ran : Got Plan → State → List ℕ → List ℕ → Outcome → State → List ℕ → Type 0
+Ran g σ bytes out r τ out′ = Played codeOf g σ (runReason g σ (eventsOf bytes) (length out)) (eventsOf bytes) out r τ out′
 
-unfoldable pub firstLine : Got Plan → List ℕ
-firstLine (form f) = formLine f
-firstLine (got p at rest) = verdictLine (verdict p)
+-- Lines, with an unfinished event before and after: these events are played, these lines written, and this then stands between two reads.
+pub record Answered (g : Got Plan) (σ : State) (unfinished : List ℕ) (reason : ℕ) (events : List Event) (lines : List ℕ) (next : Between) (out : List ℕ) (r : Outcome) (τ : State) (unfinished′ out′ : List ℕ) : Type 0 where
+  pub code : r .code ≡ reason
+  pub state : τ ≡ unless reason (next .state) σ
+  pub kept : unfinished′ ≡ unless reason (unfinishedCells (next .unfinished)) unfinished
+  pub written : Wrote (unless reason lines []) out 0 out′ (r .written)
+  pub carries : Carries g σ (unless reason events []) τ
 
--- written where there is room for the longest line, and else nothing
-unfoldable pub opening : Got Plan → ℕ → List ℕ
-opening g room = cond (ltb room lineMost) [] (firstLine g)
+-- what stands between two reads, as the lent memory holds it
+abbrev pub standing : State → List ℕ → Between
+standing σ unfinished = between σ (unfinishedIn unfinished)
+
+-- feeding plays every event that the next bytes make whole
+abbrev pub Feeds : Got Plan → State → List ℕ → List ℕ → List ℕ → Outcome → State → List ℕ → List ℕ → Type 0
+Feeds g σ unfinished bytes out r τ unfinished′ out′ =
+    let b = standing σ unfinished in
+    Answered g σ unfinished (lineReason g σ unfinished (due b bytes) (length out)) (due b bytes) (fedLines g b bytes) (fed g b bytes) out r τ unfinished′ out′
+
+-- finishing plays what is unfinished as an incomplete event
+abbrev pub Finishes : Got Plan → State → List ℕ → List ℕ → Outcome → State → List ℕ → List ℕ → Type 0
+Finishes g σ unfinished out r τ unfinished′ out′ =
+    let b = standing σ unfinished in
+    let events = eventsOf (b .unfinished) in
+    Answered g σ unfinished (lineReason g σ unfinished events (length out)) events (endLines g b) (ended g b) out r τ unfinished′ out′
+
+-- The line for the plan, where there is room for the longest one.
+unfoldable pub openReason : ℕ → ℕ
+openReason room = tooMany (room / lineMost) 1
+
+pub record Opened (g : Got Plan) (out : List ℕ) (r : Outcome) (out′ : List ℕ) : Type 0 where
+  pub code : r .code ≡ openReason (length out)
+  pub written : Wrote (unless (openReason (length out)) (firstLine g) []) out 0 out′ (r .written)

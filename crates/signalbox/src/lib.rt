@@ -1,35 +1,49 @@
-// The only public face of the box: reading a plan, checking it, one event, many events. No function asks anything of its caller: any bytes as a
-// plan, any state and any bytes as events get an answer.
-mod codes;
+// The only public face of the box: reading a plan, checking it, the fresh state, one event, many events, events as they come. No function asks
+// anything of its caller: any bytes as a plan, any state and any bytes as events get an answer.
+mod said;
 
 use checking::check;
+use codes::NO_ROOM;
 use codes::answer_code;
 use codes::form_code;
 use codes::refusal_code;
 use codes::verdict_code;
+use events::Event;
 use events::Refusal;
 use events::event_at;
+use events::event_count;
+use events::unfinished::UNFINISHED;
+use events::unfinished::keep;
+use events::unfinished::waiting;
+use events::unfinished::whole_count;
+use events::unfinished::whole_event;
 use lines::LINE;
-use lines::answer_line;
 use lines::form_line;
 use lines::verdict_line;
+use lists::wide;
 use loading::load;
 use plan::limits::IMAGE;
 use plan::limits::TRACKS;
 use play::play;
 use reading::Seen;
+use said::say;
 use state::cells::CELLS;
 use state::form::well_formed;
 ghost use mathlib.Core.Path.{_≡_};
-ghost use Prim.Native.Nat.{min};
-ghost use lib.ListN.{length};
 ghost use Rattle.reading.specs.Reading.{parse};
+ghost use Rattle.loading.specs.Storing.{afterReading};
 ghost use Rattle.state.specs.Cells.{stateIn};
-ghost use Rattle.events.specs.Events.{eventsOf, firstEvent};
-ghost use Rattle.lines.specs.Lines.{answerLine};
-ghost use Rattle.lines.specs.Written.{Wrote};
-ghost use Rattle.signalbox.specs.Codes.{checkCode, readCode};
-ghost use Rattle.signalbox.specs.Face.{codeOf, opening, playable, Played, printMost, runMost, stepCode, stepState};
+ghost use Rattle.events.specs.Events.{firstEvent};
+ghost use Rattle.codes.specs.Codes.{checkCode, readCode};
+ghost use Rattle.signalbox.specs.Face.{Feeds, Finishes, Opened, Ran, Started, Stepped, inTheWay};
+
+// What comes of a call that does all that it is given or nothing: 0, or the code of why nothing was done; and how many codes or bytes stand in the
+// lent memory.
+#[repr(C)]
+pub struct Outcome {
+    pub code: u64,
+    pub written: usize,
+}
 
 // Whether a file is a plan: 0, or its form's number and offset.
 #[no_mangle]
@@ -57,6 +71,34 @@ pub extern "C" fn signalbox_check(file: &[u8]) -> u64
     verdict_code(check(&image))
 }
 
+// The fresh state, and no byte of an unfinished event, whatever the memory held.
+#[no_mangle]
+pub extern "C" fn signalbox_fresh(
+    cells: &mut [u8; CELLS],
+    holds: &mut [u64; TRACKS],
+    unfinished: &mut [u8; UNFINISHED],
+)
+    ensures { λ _. ⌜ Started (stateIn (now (cells .exit)) (now (holds .exit))) (now (unfinished .exit)) ⌝ }
+{
+    *cells = [0u8; CELLS];
+    *holds = [0u64; TRACKS];
+    *unfinished = [0u8; UNFINISHED];
+}
+
+// What is in the way of any event, 0 where nothing is: the plan's form, then 10. Leaves the plan in the lent image.
+fn ready(file: &[u8], cells: &[u8; CELLS], holds: &[u64; TRACKS], image: &mut [u8; IMAGE]) -> u64
+    ensures { λ r. ⌜ (r ≡ inTheWay (parse (now (file .entry))) (stateIn (now (cells .entry)) (now (holds .entry)))) × (now (image .exit) ≡ afterReading (parse (now (file .entry))) (now (image .entry))) ⌝ }
+{
+    let seen = load(file, image);
+    if let Seen::Refused(form) = seen {
+        return form_code(form);
+    }
+    if !well_formed(image, cells, holds) {
+        return refusal_code(Refusal::IllFormed);
+    }
+    0
+}
+
 // One event: the code of its answer, and the state after it. Fewer than three bytes are an incomplete event.
 #[no_mangle]
 pub extern "C" fn signalbox_step(
@@ -65,22 +107,18 @@ pub extern "C" fn signalbox_step(
     holds: &mut [u64; TRACKS],
     event: &[u8],
 ) -> u64
-    ensures { λ r. ⌜ (r ≡ stepCode (parse (now (file .entry))) (stateIn (now (cells .entry)) (now (holds .entry))) (firstEvent (now (event .entry)))) × (stateIn (now (cells .exit)) (now (holds .exit)) ≡ stepState (parse (now (file .entry))) (stateIn (now (cells .entry)) (now (holds .entry))) (firstEvent (now (event .entry)))) ⌝ }
+    ensures { λ r. ⌜ Stepped (parse (now (file .entry))) (stateIn (now (cells .entry)) (now (holds .entry))) (firstEvent (now (event .entry))) r (stateIn (now (cells .exit)) (now (holds .exit))) ⌝ }
 {
     let mut image = [0u8; IMAGE];
-    let seen = load(file, &mut image);
-    if let Seen::Refused(form) = seen {
-        return form_code(form);
-    }
-    if !well_formed(&image, cells, holds) {
-        return refusal_code(Refusal::IllFormed);
+    let reason = ready(file, cells, holds, &mut image);
+    if reason != 0 {
+        return reason;
     }
     let answer = play(&image, cells, holds, event_at(event, 0));
     answer_code(answer)
 }
 
-// As many whole events as there are and as there is room for their answers: how many were played, the code of each answer, and the state after
-// them. An unreadable plan or a state that is not well formed plays none and leaves all as it was.
+// All events of bytes, an incomplete last one too: the code of each answer, and the state after them.
 #[no_mangle]
 pub extern "C" fn signalbox_run(
     file: &[u8],
@@ -88,88 +126,140 @@ pub extern "C" fn signalbox_run(
     holds: &mut [u64; TRACKS],
     events: &[u8],
     answers: &mut [u64],
-) -> usize
-    ensures { λ r. ⌜ Played codeOf (parse (now (file .entry))) (stateIn (now (cells .entry)) (now (holds .entry))) (playable (parse (now (file .entry))) (stateIn (now (cells .entry)) (now (holds .entry))) (runMost (now (events .entry)) (length (now (answers .entry)))) (now (events .entry))) (now (answers .entry)) r (stateIn (now (cells .exit)) (now (holds .exit))) (now (answers .exit)) ⌝ }
+) -> Outcome
+    ensures { λ r. ⌜ Ran (parse (now (file .entry))) (stateIn (now (cells .entry)) (now (holds .entry))) (now (events .entry)) (now (answers .entry)) r (stateIn (now (cells .exit)) (now (holds .exit))) (now (answers .exit)) ⌝ }
 {
     let mut image = [0u8; IMAGE];
-    let seen = load(file, &mut image);
-    let Seen::Next(_) = seen else {
-        return 0;
-    };
-    if !well_formed(&image, cells, holds) {
-        return 0;
+    let reason = ready(file, cells, holds, &mut image);
+    if reason != 0 {
+        return Outcome {
+            code: reason,
+            written: 0,
+        };
     }
-    let count = least(events.len() / 3, answers.len());
+    let count = event_count(events);
+    if answers.len() < count {
+        return Outcome {
+            code: NO_ROOM,
+            written: 0,
+        };
+    }
     let mut i = 0;
     while i < count {
         let answer = play(&image, cells, holds, event_at(events, 3 * i));
         answers[i] = answer_code(answer);
         i += 1;
     }
-    i
+    Outcome {
+        code: 0,
+        written: i,
+    }
 }
 
-// The first line that the program prints: the form, the broken rule or `accepted`. Hands back how many bytes it has, or 0 where there is no room
-// for the longest line.
+// The first line that the program prints: the form, the broken rule or `accepted`.
 #[no_mangle]
-pub extern "C" fn signalbox_open(file: &[u8], out: &mut [u8]) -> usize
-    ensures { λ r. ⌜ Wrote (opening (parse (now (file .entry))) (length (now (out .entry)))) (now (out .entry)) 0 (now (out .exit)) r ⌝ }
+pub extern "C" fn signalbox_open(file: &[u8], out: &mut [u8]) -> Outcome
+    ensures { λ r. ⌜ Opened (parse (now (file .entry))) (now (out .entry)) r (now (out .exit)) ⌝ }
 {
-    if out.len() < LINE {
-        return 0;
+    if out.len() / LINE < 1 {
+        return Outcome {
+            code: NO_ROOM,
+            written: 0,
+        };
     }
     let mut image = [0u8; IMAGE];
     let seen = load(file, &mut image);
     if let Seen::Refused(form) = seen {
-        return form_line(form, out, 0);
+        let written = form_line(form, out, 0);
+        return Outcome { code: 0, written };
     }
-    verdict_line(check(&image), out, 0)
+    let written = verdict_line(check(&image), out, 0);
+    Outcome { code: 0, written }
 }
 
-// The lines of as many events as there are and as there is room for, each with the longest line: how many bytes were written, and the state after
-// the events. One or two bytes left over are an incomplete event.
+// The next bytes of the input, cut anywhere: the line of every event that they make whole, and the state after them; what is left over is
+// unfinished then.
 #[no_mangle]
-pub extern "C" fn signalbox_print(
+pub extern "C" fn signalbox_feed(
     file: &[u8],
     cells: &mut [u8; CELLS],
     holds: &mut [u64; TRACKS],
-    events: &[u8],
+    unfinished: &mut [u8; UNFINISHED],
+    bytes: &[u8],
     out: &mut [u8],
-) -> usize
-    ensures { λ r. ⌜ Played answerLine (parse (now (file .entry))) (stateIn (now (cells .entry)) (now (holds .entry))) (playable (parse (now (file .entry))) (stateIn (now (cells .entry)) (now (holds .entry))) (printMost (length (now (out .entry)))) (now (events .entry))) (now (out .entry)) r (stateIn (now (cells .exit)) (now (holds .exit))) (now (out .exit)) ⌝ }
+) -> Outcome
+    ensures { λ r. ⌜ Feeds (parse (now (file .entry))) (stateIn (now (cells .entry)) (now (holds .entry))) (now (unfinished .entry)) (now (bytes .entry)) (now (out .entry)) r (stateIn (now (cells .exit)) (now (holds .exit))) (now (unfinished .exit)) (now (out .exit)) ⌝ }
 {
     let mut image = [0u8; IMAGE];
-    let seen = load(file, &mut image);
-    let Seen::Next(_) = seen else {
-        return 0;
-    };
-    if !well_formed(&image, cells, holds) {
-        return 0;
+    let reason = ready(file, cells, holds, &mut image);
+    if reason != 0 {
+        return Outcome {
+            code: reason,
+            written: 0,
+        };
     }
-    let count = least(incomplete_too(events), out.len() / LINE);
+    if 2 < wide(unfinished[0]) {
+        let code = refusal_code(Refusal::IllFormed);
+        return Outcome { code, written: 0 };
+    }
+    let count = whole_count(unfinished, bytes);
+    if out.len() / LINE < count {
+        return Outcome {
+            code: NO_ROOM,
+            written: 0,
+        };
+    }
     let mut at = 0;
     let mut i = 0;
     while i < count {
-        let answer = play(&image, cells, holds, event_at(events, 3 * i));
-        at = answer_line(answer, out, at);
+        let event = whole_event(unfinished, bytes, i);
+        at = say(&image, cells, holds, event, out, at);
         i += 1;
     }
-    at
-}
-
-// How many events bytes have, an incomplete last one too.
-fn incomplete_too(events: &[u8]) -> usize
-    ensures { λ r. ⌜ r ≡ length (eventsOf (now (events .entry))) ⌝ }
-{
-    let whole = events.len() / 3;
-    if events.len() % 3 == 0 {
-        return whole;
+    keep(unfinished, bytes);
+    Outcome {
+        code: 0,
+        written: at,
     }
-    whole + 1
 }
 
-fn least(a: usize, b: usize) -> usize
-    ensures { λ r. ⌜ r ≡ min a b ⌝ }
+// The end of the input: the line of an incomplete event where one is unfinished, and none is then.
+#[no_mangle]
+pub extern "C" fn signalbox_finish(
+    file: &[u8],
+    cells: &mut [u8; CELLS],
+    holds: &mut [u64; TRACKS],
+    unfinished: &mut [u8; UNFINISHED],
+    out: &mut [u8],
+) -> Outcome
+    ensures { λ r. ⌜ Finishes (parse (now (file .entry))) (stateIn (now (cells .entry)) (now (holds .entry))) (now (unfinished .entry)) (now (out .entry)) r (stateIn (now (cells .exit)) (now (holds .exit))) (now (unfinished .exit)) (now (out .exit)) ⌝ }
 {
-    if a < b { a } else { b }
+    let mut image = [0u8; IMAGE];
+    let reason = ready(file, cells, holds, &mut image);
+    if reason != 0 {
+        return Outcome {
+            code: reason,
+            written: 0,
+        };
+    }
+    if 2 < wide(unfinished[0]) {
+        let code = refusal_code(Refusal::IllFormed);
+        return Outcome { code, written: 0 };
+    }
+    if waiting(unfinished) == 0 {
+        *unfinished = [0u8; UNFINISHED];
+        return Outcome {
+            code: 0,
+            written: 0,
+        };
+    }
+    if out.len() / LINE < 1 {
+        return Outcome {
+            code: NO_ROOM,
+            written: 0,
+        };
+    }
+    let written = say(&image, cells, holds, Event::Unknown, out, 0);
+    *unfinished = [0u8; UNFINISHED];
+    Outcome { code: 0, written }
 }

@@ -1,7 +1,7 @@
 //! Counting what the cases have reached, so that nothing goes untried unnoticed.
 
+use super::calls::{self, Kinds};
 use super::flaws::{self, FLAWS};
-use super::lists::{self, LISTS};
 use super::special::{self, SPECIALS};
 use crate::book::MODEL;
 use crate::generate::case::Case;
@@ -49,8 +49,8 @@ pub struct Counts {
     pub flaws: Vec<u64>,
     /// Pairs of agreeing states by the answer to the request.
     pub pairs: [u64; ANSWERS],
-    /// Lists of events at once.
-    pub lists: Vec<u64>,
+    /// Calls that do all or nothing.
+    pub calls: Kinds,
 }
 
 impl Default for Counts {
@@ -67,7 +67,7 @@ impl Default for Counts {
             specials: vec![0; SPECIALS.len()],
             flaws: vec![0; FLAWS.len()],
             pairs: [0; ANSWERS],
-            lists: vec![0; LISTS],
+            calls: Kinds::new(),
         }
     }
 }
@@ -98,10 +98,10 @@ impl Counts {
     pub fn observe(&mut self, case: &Case) {
         self.plans += 1;
         let plan = read(&case.plan);
-        lists::of_list(plan.as_ref().ok(), &case.list, |kind| self.lists[kind] += 1);
-        if let Some(room) = case.opening {
-            self.lists[lists::of_opening(room)] += 1;
-        }
+        let calls = &mut self.calls;
+        calls::of_case(plan.as_ref().ok(), case, &mut |kind| {
+            *calls.entry(kind).or_default() += 1;
+        });
         match plan {
             Err(fault) => self.observe_unreadable(case, fault),
             Ok(plan) => self.observe_readable(case, &plan),

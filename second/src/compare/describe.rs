@@ -1,9 +1,11 @@
 //! Plans, states and events in words, for the person who has to find the mistake.
 
 use super::trouble::Work;
+use crate::generate::pieces::{Piece, Pieces};
 use crate::model::plan::{Plan, Track, MOST_TRACKS};
 use crate::model::reading::read;
 use crate::model::state::Arrays;
+use crate::subject::Kept;
 use std::fmt::Write;
 
 pub fn plan(file: &[u8]) -> String {
@@ -87,6 +89,14 @@ pub fn state(arrays: &Arrays) -> String {
     }
 }
 
+/// All that is not fresh, with the unfinished event.
+pub fn kept(kept: &Kept) -> String {
+    match kept.unfinished {
+        [0, 0, 0] => state(&kept.state),
+        bytes => format!("{} and unfinished {bytes:?}", state(&kept.state)),
+    }
+}
+
 fn routes(set: u64) -> Vec<usize> {
     (0..u64::BITS as usize)
         .filter(|route| set >> route & 1 == 1)
@@ -122,14 +132,24 @@ pub fn work(work: &Work) -> String {
             state(&pair.other)
         ),
         Work::List(list) => format!(
-            "many events at once from {}, room for {} answers and for {} bytes of lines:\n{}",
+            "many events at once from {}, room for {} answers:\n{}",
             state(&list.from),
-            list.answers,
-            list.bytes,
+            list.room,
             events_in_words(&list.events)
         ),
+        Work::Pieces(session) => pieces_in_words(session),
+        Work::Fresh(memory) => format!("the fresh state in memory with {}\n", kept(memory)),
         Work::Open(room) => format!("the line for the plan, room for {room} bytes\n"),
     }
+}
+
+fn pieces_in_words(session: &Pieces) -> String {
+    let mut words = format!("an input in pieces from {}:\n", kept(&session.from));
+    for Piece { bytes, room } in &session.pieces {
+        let _ = writeln!(words, "  {bytes:?}, room for {room} bytes of lines");
+    }
+    let _ = writeln!(words, "  its end, room for {} bytes", session.ending);
+    words
 }
 
 fn events_in_words(events: &[u8]) -> String {

@@ -1,8 +1,8 @@
 //! The printed counts, and what there must be of each.
 
+use super::calls;
 use super::counts::{Counts, CANCELLED, ENTERED, EVENT_KINDS, GRANTED, LEFT, MOVED};
 use super::flaws::FLAWS;
-use super::lists;
 use super::special::SPECIALS;
 use crate::generate::faults::{can_occur, PLACES};
 
@@ -46,7 +46,7 @@ pub fn report(counts: &Counts) -> Vec<String> {
     lines.extend(named_lines(SPECIALS, &counts.specials));
     lines.extend(named_lines(FLAWS, &counts.flaws));
     lines.extend(pair_lines(counts));
-    lines.extend(list_lines(counts));
+    lines.extend(call_lines(counts));
     println!("{:>10} plans", counts.plans);
     println!("{:>10} events", counts.events);
     for line in &lines {
@@ -140,7 +140,10 @@ fn pair_lines(counts: &Counts) -> Vec<Line> {
     [12, 13, 14, 42, GRANTED].iter().map(line).collect()
 }
 
-fn list_lines(counts: &Counts) -> impl Iterator<Item = Line> + '_ {
-    let pairs = lists::names().into_iter().zip(&counts.lists);
-    pairs.map(|(name, &count)| Line::needed(name, count))
+fn call_lines(counts: &Counts) -> impl Iterator<Item = Line> + '_ {
+    calls::names().into_iter().map(|kind| {
+        let [call, from, what] = kind;
+        let count = counts.calls.get(&kind).copied().unwrap_or(0);
+        Line::needed(format!("{call} {from}: {what}"), count)
+    })
 }

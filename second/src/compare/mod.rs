@@ -1,11 +1,11 @@
 //! The comparison of a subject with the model.
 
+mod calls;
 pub mod counts;
 pub mod describe;
 pub mod driver;
 mod flaws;
 pub mod history;
-mod lists;
 pub mod minima;
 pub mod shrink;
 pub mod shrink_file;

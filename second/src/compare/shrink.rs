@@ -3,10 +3,11 @@
 use super::shrink_file::with_one_item_less;
 use super::shrink_plan::{apply, cuts};
 use super::trouble::{trouble, Work};
+use crate::generate::pieces::Piece;
 use crate::model::plan::{MOST_SIGNALS, MOST_TRACKS};
 use crate::model::reading::read;
 use crate::model::state::Arrays;
-use crate::subject::Subject;
+use crate::subject::{Subject, EVENT, LINE};
 use crate::writing::write;
 
 /// Enough for the largest plan and its events; a bound all the same, since a subject may be slow.
@@ -30,7 +31,7 @@ pub fn shrink(subject: &dyn Subject, plan: &[u8], work: &Work) -> (Vec<u8>, Work
     loop {
         let mut smaller = shrinker.shrink_events();
         smaller |= shrinker.shrink_states();
-        smaller |= shrinker.shrink_room();
+        smaller |= shrinker.shrink_calls();
         smaller |= shrinker.shrink_readable();
         smaller |= shrinker.shrink_items();
         smaller |= shrinker.shrink_bytes();
@@ -52,69 +53,34 @@ impl Shrinker<'_> {
         kept
     }
 
-    fn events(&self) -> Option<&Vec<u8>> {
-        match &self.work {
-            Work::Run(events) => Some(events),
-            Work::List(list) => Some(&list.events),
-            _ => None,
-        }
-    }
-
-    /// The work with other events.
-    fn with_events(&self, events: Vec<u8>) -> Work {
-        match self.work.clone() {
-            Work::List(mut list) => {
-                list.events = events;
-                Work::List(list)
-            }
-            _ => Work::Run(events),
-        }
-    }
-
-    /// Lends less room.
-    fn shrink_room(&mut self) -> bool {
-        let mut smaller = false;
-        loop {
-            let (mut fewer_answers, mut fewer_bytes) = (self.work.clone(), self.work.clone());
-            let can_be_less = match (&mut fewer_answers, &mut fewer_bytes) {
-                (Work::List(one), Work::List(other)) => {
-                    let (answers, bytes) = (one.answers, other.bytes);
-                    one.answers = answers.saturating_sub(1);
-                    other.bytes = bytes.saturating_sub(1);
-                    (answers > 0, bytes > 0)
-                }
-                _ => return smaller,
-            };
-            let fewer_answers = can_be_less.0 && self.try_out(self.plan.clone(), fewer_answers);
-            let fewer_bytes =
-                !fewer_answers && can_be_less.1 && self.try_out(self.plan.clone(), fewer_bytes);
-            if !fewer_answers && !fewer_bytes {
-                return smaller;
-            }
-            smaller = true;
-        }
-    }
-
-    /// Leaves out events, many at a time at first.
+    /// Leaves out events or pieces, many at a time at first.
     fn shrink_events(&mut self) -> bool {
-        let Some(events) = self.events() else {
-            return false;
-        };
         let mut smaller = false;
-        let mut piece = events.len().div_ceil(6) * 3;
-        while piece >= 3 {
+        let mut count = units(&self.work).div_ceil(2);
+        while count > 0 {
             let mut at = 0;
-            while let Some(events) = self.events().filter(|events| at < events.len()) {
-                let end = (at + piece).min(events.len());
-                let mut fewer = events.clone();
-                fewer.drain(at..end);
-                if self.try_out(self.plan.clone(), self.with_events(fewer)) {
+            while at < units(&self.work) {
+                let fewer = without(&self.work, at, count);
+                if self.try_out(self.plan.clone(), fewer) {
                     smaller = true;
                 } else {
-                    at += piece;
+                    at += count;
                 }
             }
-            piece = piece / 6 * 3;
+            count /= 2;
+        }
+        smaller
+    }
+
+    /// Lends less room, and feeds fewer bytes at a time.
+    fn shrink_calls(&mut self) -> bool {
+        let mut smaller = false;
+        let mut number = 0;
+        while let Some(&fewer) = all_fewer(&self.work).get(number) {
+            let made =
+                less(&self.work, fewer).is_some_and(|work| self.try_out(self.plan.clone(), work));
+            smaller |= made;
+            number += usize::from(!made);
         }
         smaller
     }
@@ -128,6 +94,8 @@ impl Shrinker<'_> {
             let changed = match &mut work {
                 Work::Step(arrays, _) => empty(arrays, cell),
                 Work::List(list) => empty(&mut list.from, cell),
+                Work::Pieces(session) => empty(&mut session.from.state, cell),
+                Work::Fresh(memory) => empty(&mut memory.state, cell),
                 Work::Agreement(pair) => empty(&mut pair.one, cell) | empty(&mut pair.other, cell),
                 _ => false,
             };
@@ -192,6 +160,95 @@ impl Shrinker<'_> {
         }
         smaller
     }
+}
+
+/// How many events or pieces there are.
+fn units(work: &Work) -> usize {
+    match work {
+        Work::Run(events) => events.len().div_ceil(EVENT),
+        Work::List(list) => list.events.len().div_ceil(EVENT),
+        Work::Pieces(session) => session.pieces.len(),
+        _ => 0,
+    }
+}
+
+/// The work without so many events or pieces.
+fn without(work: &Work, at: usize, count: usize) -> Work {
+    fn drain<T>(items: &mut Vec<T>, at: usize, count: usize) {
+        items.drain(at..(at + count).min(items.len()));
+    }
+    let mut work = work.clone();
+    match &mut work {
+        Work::Run(events) => drain(events, EVENT * at, EVENT * count),
+        Work::List(list) => drain(&mut list.events, EVENT * at, EVENT * count),
+        Work::Pieces(session) => drain(&mut session.pieces, at, count),
+        _ => {}
+    }
+    work
+}
+
+/// What can be less in a call.
+#[derive(Clone, Copy)]
+enum Fewer {
+    /// Room for answers, for lines of a piece, for the line at the end.
+    Answers,
+    Lines(usize),
+    Ending,
+    /// The first event with its answer.
+    AnsweredEvent,
+    /// The last event of a piece, alone or with its line.
+    Event(usize),
+    EventWithLine(usize),
+    /// Of the unfinished event.
+    Unfinished,
+}
+
+fn all_fewer(work: &Work) -> Vec<Fewer> {
+    match work {
+        Work::List(_) => vec![Fewer::Answers, Fewer::AnsweredEvent],
+        Work::Pieces(session) => {
+            let pieces = 0..session.pieces.len();
+            let events = pieces
+                .clone()
+                .flat_map(|at| [Fewer::Event(at), Fewer::EventWithLine(at)]);
+            let rooms = pieces.map(Fewer::Lines);
+            let others = [Fewer::Unfinished, Fewer::Ending];
+            events.chain(rooms).chain(others).collect()
+        }
+        _ => Vec::new(),
+    }
+}
+
+fn drop_event(piece: &mut Piece) -> Option<()> {
+    piece.bytes.truncate(piece.bytes.len().checked_sub(EVENT)?);
+    Some(())
+}
+
+/// The work with less of this, if there is any.
+fn less(work: &Work, fewer: Fewer) -> Option<Work> {
+    let mut work = work.clone();
+    let one_less = |room: &mut usize| room.checked_sub(1).map(|less| *room = less);
+    match (&mut work, fewer) {
+        (Work::List(list), Fewer::Answers) => one_less(&mut list.room)?,
+        (Work::Pieces(session), Fewer::Lines(at)) => one_less(&mut session.pieces[at].room)?,
+        (Work::Pieces(session), Fewer::Ending) => one_less(&mut session.ending)?,
+        (Work::List(list), Fewer::AnsweredEvent) => {
+            one_less(&mut list.room)?;
+            list.events = list.events.get(EVENT..)?.to_vec();
+        }
+        (Work::Pieces(session), Fewer::Event(at)) => drop_event(&mut session.pieces[at])?,
+        (Work::Pieces(session), Fewer::EventWithLine(at)) => {
+            let piece = &mut session.pieces[at];
+            drop_event(piece)?;
+            piece.room = piece.room.checked_sub(LINE)?;
+        }
+        (Work::Pieces(session), Fewer::Unfinished) => {
+            let old = std::mem::take(&mut session.from.unfinished);
+            (old != session.from.unfinished).then_some(())?;
+        }
+        _ => return None,
+    }
+    Some(work)
 }
 
 /// Empties one cell; false if it was empty.

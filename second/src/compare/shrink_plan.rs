@@ -2,8 +2,10 @@
 
 use super::trouble::Work;
 use crate::generate::case::Pair;
+use crate::generate::pieces::Pieces;
 use crate::model::plan::{Plan, Release, Route, Track};
 use crate::model::state::Arrays;
+use crate::subject::EVENT;
 
 #[derive(Clone, Copy, Debug)]
 pub enum Cut {
@@ -211,6 +213,7 @@ fn change_states(work: &mut Work, change: impl Fn(&mut Arrays)) {
     match work {
         Work::Step(arrays, _) => change(arrays),
         Work::List(list) => change(&mut list.from),
+        Work::Pieces(session) => change(&mut session.from.state),
         Work::Agreement(pair) => {
             let Pair { one, other, .. } = &mut **pair;
             change(one);
@@ -220,29 +223,35 @@ fn change_states(work: &mut Work, change: impl Fn(&mut Arrays)) {
     }
 }
 
-/// Takes out the events that name what was dropped and renames those behind it.
+/// Renames the events behind what was dropped; those that name it become none, so that the others
+/// stay where they are, whole or in pieces.
 fn drop_events(work: &mut Work, kinds: &[u8], dropped: usize) {
     let dropped = dropped as u8;
     let names = |kind: u8| kinds.contains(&kind);
+    let rename = |event: &mut [u8]| match event {
+        [kind, number, _] if names(*kind) && *number == dropped => *kind = 0,
+        [kind, number, _] if names(*kind) && *number > dropped => *number -= 1,
+        _ => {}
+    };
     match work {
-        Work::Run(events) => drop_from_list(events, names, dropped),
-        Work::List(list) => drop_from_list(&mut list.events, names, dropped),
-        Work::Step(_, event) if names(event[0]) => event[1] -= u8::from(event[1] > dropped),
+        Work::Run(events) => events.chunks_mut(EVENT).for_each(rename),
+        Work::List(list) => list.events.chunks_mut(EVENT).for_each(rename),
+        Work::Pieces(session) => rename_in_pieces(session, rename),
+        Work::Step(_, event) => rename(event),
         Work::Agreement(pair) if names(1) => pair.route -= u8::from(pair.route > dropped),
         _ => {}
     }
 }
 
-fn drop_from_list(events: &mut Vec<u8>, names: impl Fn(u8) -> bool, dropped: u8) {
-    let mut kept = Vec::with_capacity(events.len());
-    for event in events.chunks_mut(3) {
-        if event.len() == 3 && names(event[0]) {
-            if event[1] == dropped {
-                continue;
-            }
-            event[1] -= u8::from(event[1] > dropped);
-        }
-        kept.extend_from_slice(event);
+/// Puts the input together, renames, and cuts it where it was cut.
+fn rename_in_pieces(session: &mut Pieces, rename: impl Fn(&mut [u8])) {
+    let begun = session.from.begun().map_or(0, <[u8]>::len);
+    let cells = session.from.unfinished[1..][..begun].iter_mut();
+    let bytes = session.pieces.iter_mut().flat_map(|piece| &mut piece.bytes);
+    let mut places: Vec<&mut u8> = cells.chain(bytes).collect();
+    let mut input: Vec<u8> = places.iter().map(|place| **place).collect();
+    input.chunks_mut(EVENT).for_each(rename);
+    for (place, byte) in places.iter_mut().zip(input) {
+        **place = byte;
     }
-    *events = kept;
 }

@@ -1,14 +1,15 @@
 //! One piece of work given to the model and to a subject: do they agree?
 
-use super::describe::state;
+use super::describe::{self, state};
 use super::history::{self, Told};
 use crate::book::MODEL;
 use crate::generate::case::{Case, Pair};
 use crate::generate::events::Event;
 use crate::generate::lists::List;
+use crate::generate::pieces::Pieces;
 use crate::model::reading::Form;
 use crate::model::state::Arrays;
-use crate::subject::{Lent, Prepared, Subject};
+use crate::subject::{Kept, Lent, Prepared, Reason, Subject, EVENT, LINE};
 use std::fmt::Display;
 
 /// Something to be done with a plan.
@@ -20,9 +21,12 @@ pub enum Work {
     Run(Vec<u8>),
     Step(Box<Arrays>, Event),
     Agreement(Box<Pair>),
-    /// A list of events at once, for their answers and for their lines, and the bytes left over as
-    /// a single event.
+    /// A list of events at once; all its bytes, and those left over, as a single event.
     List(Box<List>),
+    /// An input in pieces and its end.
+    Pieces(Box<Pieces>),
+    /// What every session starts with, in memory that held this.
+    Fresh(Box<Kept>),
     /// The line for the plan, with room for so many bytes.
     Open(usize),
 }
@@ -52,7 +56,10 @@ pub fn works(case: &Case) -> Vec<Work> {
     let pairs = case.pairs.iter().cloned();
     works.extend(pairs.map(|pair| Work::Agreement(Box::new(pair))));
     works.extend(case.opening.map(Work::Open));
+    works.push(Work::Fresh(Box::new(case.memory.clone())));
     works.push(Work::List(Box::new(case.list.clone())));
+    let pieces = case.pieces.iter().cloned();
+    works.extend(pieces.map(|pieces| Work::Pieces(Box::new(pieces))));
     works
 }
 
@@ -88,7 +95,11 @@ impl<'a> Sides<'a> {
                 outside(history::check_agreement(self.ready_subject.as_mut(), pair))
             }
             Work::List(list) => self.list(list),
-            Work::Open(room) => self.lent(&Arrays::fresh(), |ready, _| ready.open(*room)),
+            Work::Pieces(session) => self.pieces(session),
+            Work::Fresh(memory) => self.fresh(memory),
+            Work::Open(room) => self
+                .lent(&mut Kept::fresh(), |ready, _| ready.open(*room))
+                .err(),
         }
     }
 
@@ -115,51 +126,101 @@ impl<'a> Sides<'a> {
             let expected = history::play(self.ready_model.as_mut(), events);
             let mut pairs = expected.iter().zip(&story);
             let single = pairs.find_map(|(expected, told)| difference(expected, told));
-            single.or_else(|| self.at_once(&Arrays::fresh(), events, events.len() / 3))
+            single.or_else(|| self.at_once(&Arrays::fresh(), events, events.len().div_ceil(EVENT)))
         })
     }
 
     fn list(&mut self, list: &List) -> Option<Trouble> {
         let (from, events) = (&list.from, &list.events);
-        self.at_once(from, events, list.answers)
-            .or_else(|| self.lent(from, |ready, after| ready.print(after, events, list.bytes)))
-            .or_else(|| match events.chunks_exact(3).remainder() {
-                [] => None,
-                left_over => self.step(from, left_over),
-            })
+        let left_over = events.chunks_exact(EVENT).remainder();
+        self.at_once(from, events, list.room)
+            .or_else(|| self.step(from, events))
+            .or_else(|| self.step(from, left_over))
     }
 
-    /// Events at once: their answers and the state after the last that there is room for.
+    /// Events at once: their answers and the state after the last.
     fn at_once(&mut self, from: &Arrays, events: &[u8], room: usize) -> Option<Trouble> {
-        self.lent(from, |ready, after| ready.run(after, events, room))
+        let mut kept = Kept::of(from.clone());
+        self.lent(&mut kept, |ready, kept| ready.run(kept, events, room))
+            .err()
     }
 
-    /// A call that writes into lent memory: what it writes and what it leaves alone, how much it
-    /// says it wrote, and the state after it.
+    fn fresh(&self, memory: &Kept) -> Option<Trouble> {
+        let (mut expected, mut found) = (memory.clone(), memory.clone());
+        MODEL.fresh(&mut expected);
+        self.subject.fresh(&mut found);
+        different(&expected, &found).err()
+    }
+
+    fn pieces(&mut self, session: &Pieces) -> Option<Trouble> {
+        self.session(session).err()
+    }
+
+    /// What is refused for lack of room is asked for again with the room that it needs. After the
+    /// end nothing is unfinished, so that another end needs no room at all.
+    fn session(&mut self, session: &Pieces) -> Result<(), Trouble> {
+        let mut kept = session.from.clone();
+        for piece in &session.pieces {
+            let begun = kept.begun().map_or(0, <[u8]>::len);
+            let needed = (begun + piece.bytes.len()) / EVENT * LINE;
+            self.until_done(&mut kept, [piece.room, needed], |ready, kept, room| {
+                ready.feed(kept, &piece.bytes, room)
+            })?;
+        }
+        for rooms in [[session.ending, LINE], [0, 0]] {
+            self.until_done(&mut kept, rooms, |ready, kept, room| {
+                ready.finish(kept, room)
+            })?;
+        }
+        Ok(())
+    }
+
+    /// A call with one room and, if that was too little, with the other.
+    fn until_done(
+        &mut self,
+        kept: &mut Kept,
+        rooms: [usize; 2],
+        call: impl Fn(&mut dyn Prepared, &mut Kept, usize) -> Lent<u8>,
+    ) -> Result<(), Trouble> {
+        for room in rooms {
+            let reason = self.lent(kept, |ready, kept| call(ready, kept, room))?;
+            if reason != Some(Reason::NoRoom) {
+                break;
+            }
+        }
+        Ok(())
+    }
+
+    /// A call that writes into lent memory: what it says, what it writes and what it leaves alone,
+    /// how much it says it wrote, and what is kept after it. Hands back why it did nothing, if so.
     fn lent<T: PartialEq + Display>(
         &mut self,
-        from: &Arrays,
-        call: impl Fn(&mut dyn Prepared, &mut Arrays) -> Lent<T>,
-    ) -> Option<Trouble> {
-        let told = |ready: &mut dyn Prepared| {
-            let mut after = from.clone();
-            let lent = call(ready, &mut after);
-            (lent, after)
-        };
-        let (expected, then) = told(self.ready_model.as_mut());
-        let (found, after) = told(self.ready_subject.as_mut());
+        kept: &mut Kept,
+        call: impl Fn(&mut dyn Prepared, &mut Kept) -> Lent<T>,
+    ) -> Result<Option<Reason>, Trouble> {
+        let mut after = kept.clone();
+        let expected = call(self.ready_model.as_mut(), kept);
+        let found = call(self.ready_subject.as_mut(), &mut after);
+        if expected.reason != found.reason {
+            let words = |reason: Option<Reason>| match reason {
+                Some(reason) => reason.to_string(),
+                None => "all of it done".to_string(),
+            };
+            return Err(Trouble::new(words(expected.reason), words(found.reason)));
+        }
         let mut cells = expected.cells.iter().zip(&found.cells).enumerate();
         if let Some((at, (one, other))) = cells.find(|(_, (one, other))| one != other) {
             let words = |cell: &Option<T>| match cell {
                 Some(item) => format!("cell {at}: {item}"),
                 None => format!("cell {at} left alone"),
             };
-            return Some(Trouble::new(words(one), words(other)));
+            return Err(Trouble::new(words(one), words(other)));
         }
         if expected.count != found.count {
-            return Some(Trouble::new(expected.count, found.count));
+            return Err(Trouble::new(expected.count, found.count));
         }
-        (then != after).then(|| Trouble::new(state(&then), state(&after)))
+        different(kept, &after)?;
+        Ok(expected.reason)
     }
 
     fn step(&mut self, arrays: &Arrays, event: &[u8]) -> Option<Trouble> {
@@ -182,6 +243,16 @@ fn difference(expected: &Told, found: &Told) -> Option<Trouble> {
     (expected.after != found.after).then(|| Trouble::new(words(expected), words(found)))
 }
 
+fn different(expected: &Kept, found: &Kept) -> Result<(), Trouble> {
+    if expected == found {
+        return Ok(());
+    }
+    Err(Trouble::new(
+        describe::kept(expected),
+        describe::kept(found),
+    ))
+}
+
 /// Like [`Sides::trouble`], for a plan that is looked at once.
 pub fn trouble(subject: &dyn Subject, plan: &[u8], work: &Work) -> Option<Trouble> {
     Sides::new(subject, plan).trouble(work)
@@ -194,7 +265,7 @@ fn outside(finding: Result<(), String>) -> Option<Trouble> {
 }
 
 /// The first line that is not the same.
-fn first_difference(expected: &[u8], found: &[u8]) -> Trouble {
+pub fn first_difference(expected: &[u8], found: &[u8]) -> Trouble {
     let (expected, found) = (
         String::from_utf8_lossy(expected),
         String::from_utf8_lossy(found),

@@ -2,12 +2,14 @@
 
 use super::events::{self, Event};
 use super::lists::{self, List};
+use super::pieces::{self, Pieces};
 use super::{accepted, broken, faults, states, wild};
 use crate::model::plan::Plan;
 use crate::model::reading::read;
 use crate::model::rules;
 use crate::model::state::Arrays;
 use crate::random::Random;
+use crate::subject::Kept;
 use crate::writing::write;
 
 /// Two well-formed states that a request for the route cannot tell apart.
@@ -28,6 +30,10 @@ pub struct Case {
     pub pairs: Vec<Pair>,
     /// Events at once, with more room than they need or less.
     pub list: List,
+    /// Inputs in pieces: one from any state and, in every other case, the whole run.
+    pub pieces: Vec<Pieces>,
+    /// Memory in which a session is to start.
+    pub memory: Kept,
     /// Now and then the room for the line for the plan, which whole runs try with as much as it
     /// needs.
     pub opening: Option<usize>,
@@ -71,6 +77,8 @@ fn with_readable(random: &mut Random, file: Vec<u8>, plan: &Plan) -> Case {
     let steps = (0..6).map(|_| single_step(random, plan)).collect();
     let pairs = pair(random, plan).into_iter().collect();
     let list = lists::list(random, plan, &events);
+    let mut pieces = vec![pieces::pieces(random, plan, &events)];
+    pieces.extend(pieces::session(random, &events));
     let opening = lists::opening(random);
     Case {
         plan: file,
@@ -78,6 +86,8 @@ fn with_readable(random: &mut Random, file: Vec<u8>, plan: &Plan) -> Case {
         steps,
         pairs,
         list,
+        pieces,
+        memory: pieces::memory(random),
         opening,
     }
 }
@@ -85,8 +95,8 @@ fn with_readable(random: &mut Random, file: Vec<u8>, plan: &Plan) -> Case {
 /// How many events a run has: sometimes none or a few, rarely some thousand.
 fn event_count(random: &mut Random, low: usize, high: usize) -> usize {
     match random.below(1000) {
-        0 => random.between(3000, 6000),
-        1..=30 => random.between(0, 3),
+        0..=1 => random.between(3000, 6000),
+        2..=30 => random.between(0, 3),
         _ => random.between(low, high),
     }
 }
@@ -126,6 +136,8 @@ fn with_unreadable(random: &mut Random, file: Vec<u8>) -> Case {
         steps,
         pairs: Vec::new(),
         list,
+        pieces: vec![pieces::for_no_plan(random)],
+        memory: pieces::memory(random),
         opening,
     }
 }

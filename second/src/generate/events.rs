@@ -124,6 +124,32 @@ pub fn going_on(
     (events, next)
 }
 
+/// Whole events that go on from a state and leave it after them. Unwanted ones are chosen anew, and
+/// where none is found there is one that is none.
+pub fn wanted(
+    random: &mut Random,
+    plan: &Plan,
+    state: &mut State,
+    count: usize,
+    is_wanted: impl Fn(&State, &Event) -> bool,
+) -> Vec<u8> {
+    const TRIES: usize = 8;
+    let manner = match crate::model::rules::check(plan) {
+        None => [SMOOTH, SMOOTH, TOURING, FICKLE][random.below(4)],
+        Some(_) => [RECKLESS, FICKLE][random.below(2)],
+    };
+    let mut events = Vec::with_capacity(3 * count);
+    for _ in 0..count {
+        let mut tries = (0..TRIES).map(|_| choose(random, plan, state, &manner));
+        let event = tries
+            .find(|event| is_wanted(state, event))
+            .unwrap_or_default();
+        step::step(plan, state, &event);
+        events.extend(event);
+    }
+    events
+}
+
 fn list(random: &mut Random, plan: &Plan, count: usize, manner: &Manner) -> Vec<u8> {
     let mut state = State::fresh(plan);
     let mut events = Vec::with_capacity(3 * count + 2);

@@ -1,5 +1,6 @@
 //! Seeded makers of plans, files, event lists and states.
 
+pub mod beside;
 pub mod broken;
 mod broken_routes;
 mod broken_tracks;
@@ -9,6 +10,7 @@ pub mod events;
 pub mod faults;
 pub mod largest;
 pub mod lists;
+pub mod pieces;
 mod renumber;
 mod shapes;
 mod sketch;

@@ -47,7 +47,8 @@ pub fn not_well_formed(random: &mut Random, plan: &Plan) -> Arrays {
     arrays
 }
 
-fn noise(random: &mut Random) -> Arrays {
+/// Arrays that hold anything at all.
+pub fn noise(random: &mut Random) -> Arrays {
     let mut arrays = Arrays::fresh();
     arrays.trains.fill_with(|| random.byte());
     arrays.lies.fill_with(|| random.byte());

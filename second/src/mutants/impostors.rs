@@ -25,19 +25,19 @@ pub const ALL: &[Slip] = &[
     ),
     (
         "the whole list is played at the first event",
-        Wrong::Run(played_at_once),
+        Wrong::Whole(played_at_once),
     ),
     ("40 to 42 are never said", Wrong::Step(never_an_accident)),
     (
         "an incomplete last event is passed over",
-        Wrong::Run(whole_events_alone),
+        Wrong::Whole(whole_events_alone),
     ),
     (
         "an unreadable plan is followed by answers",
-        Wrong::Run(answers_anyway),
+        Wrong::Whole(answers_anyway),
     ),
-    ("a broken rule ends the run", Wrong::Run(stops_at_rule)),
-    ("the last line has no end", Wrong::Run(last_line_open)),
+    ("a broken rule ends the run", Wrong::Whole(stops_at_rule)),
+    ("the last line has no end", Wrong::Whole(last_line_open)),
 ];
 
 fn played_at_once(book: &Book, file: &[u8], events: &[u8]) -> Vec<u8> {

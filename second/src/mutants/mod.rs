@@ -1,25 +1,34 @@
 //! Boxes with one thing wrong. The comparison must catch every one of them.
 
+mod calls;
 mod events;
 mod impostors;
-mod lists;
 mod moves;
+mod pieces;
+pub mod programs;
 mod reading;
 mod requests;
 mod rules;
 mod states;
 
-use crate::book::{Book, Readable, MODEL};
+use crate::book::{Book, Call, MODEL};
 use crate::compare::driver::{hunt, Mismatch};
 use crate::model::answer::{Answer, Verdict};
 use crate::model::plan::Plan;
 use crate::model::reading::Fault;
 use crate::model::rules::Broken;
 use crate::model::state::{Arrays, State};
-use crate::subject::Lent;
+use crate::program::sessions::{self, Session};
+use crate::program::{expected, trouble_with};
+use crate::subject::{Kept, Lent};
+use programs::InProcess;
 
 /// More cases than any of them has needed so far; a mutant that gets through them all survives.
 const MOST_CASES: usize = 20_000;
+
+/// How many there must be at least, so that none is lost unseen. They may only grow.
+const LEAST_BOXES: usize = 240;
+const LEAST_PROGRAMS: usize = 44;
 
 /// A wrong function in place of a right one.
 #[derive(Clone, Copy)]
@@ -29,9 +38,11 @@ enum Wrong {
     Load(fn(&mut State, &Plan, &Arrays) -> bool),
     Step(fn(&Plan, &mut State, &[u8]) -> Answer),
     StepArrays(fn(&Book, &Plan, &mut Arrays, &[u8], &mut State) -> Answer),
-    Run(fn(&Book, &[u8], &[u8]) -> Vec<u8>),
-    RunList(fn(&Book, Readable, &mut Arrays, &[u8], usize) -> Lent<Answer>),
-    PrintList(fn(&Book, Readable, &mut Arrays, &[u8], usize) -> Lent<u8>),
+    Whole(fn(&Book, &[u8], &[u8]) -> Vec<u8>),
+    Fresh(fn(&mut Kept)),
+    Run(Call<Answer>),
+    Feed(Call<u8>),
+    Finish(Call<u8>),
     Open(fn(Verdict, usize) -> Lent<u8>),
 }
 
@@ -57,9 +68,14 @@ pub fn all() -> Vec<Mutant> {
         events::ALL,
         moves::ALL,
         impostors::ALL,
-        lists::RUN,
-        lists::PRINT,
-        lists::OPEN,
+        calls::ANY_RUN,
+        calls::RUN,
+        calls::OPEN,
+        calls::ANY_FEED,
+        pieces::FEED,
+        calls::ANY_FINISH,
+        pieces::FINISH,
+        pieces::FRESH,
     ];
     groups.concat().into_iter().map(mutant).collect()
 }
@@ -72,16 +88,65 @@ fn mutant((name, wrong): Slip) -> Mutant {
         Wrong::Load(load) => book.load = load,
         Wrong::Step(step) => book.step = step,
         Wrong::StepArrays(step_arrays) => book.step_arrays = step_arrays,
+        Wrong::Whole(whole) => book.whole = whole,
+        Wrong::Fresh(fresh) => book.fresh = fresh,
         Wrong::Run(run) => book.run = run,
-        Wrong::RunList(run_list) => book.run_list = run_list,
-        Wrong::PrintList(print_list) => book.print_list = print_list,
+        Wrong::Feed(feed) => book.feed = feed,
+        Wrong::Finish(finish) => book.finish = finish,
         Wrong::Open(open) => book.open = open,
     }
     Mutant { name, book }
 }
 
-/// Holds every mutant against the model, a line for each; true if all are caught.
+/// Holds every mutant and every wrong program against the model, a line for each; true if there are
+/// enough of them and all are caught.
 pub fn catch_all(seed: u64) -> bool {
+    let boxes = catch_boxes(seed);
+    let programs = catch_programs(seed);
+    boxes && programs
+}
+
+fn catch_programs(seed: u64) -> bool {
+    let sessions = with_expected(sessions::all(seed));
+    let programs = programs::all();
+    let mut survivors = 0;
+    for program in &programs {
+        match first_trouble(program, &sessions) {
+            Some((number, sentence)) => println!(
+                "caught in session {number:>2}: {} ({})",
+                program.name,
+                shortened(&sentence)
+            ),
+            None => {
+                survivors += 1;
+                println!("SURVIVED all sessions: {}", program.name);
+            }
+        }
+    }
+    println!("{} wrong programs, {survivors} survived", programs.len());
+    is_enough("wrong programs", programs.len(), LEAST_PROGRAMS) && survivors == 0
+}
+
+/// A session with what must be printed in it.
+pub type Known = (Session, Vec<u8>);
+
+pub fn with_expected(sessions: impl Iterator<Item = Session>) -> Vec<Known> {
+    let known = sessions.map(|session| {
+        let expected = expected(&session);
+        (session, expected)
+    });
+    known.collect()
+}
+
+/// The first session that goes wrong, and how.
+pub fn first_trouble(program: &InProcess, sessions: &[Known]) -> Option<(usize, String)> {
+    let mut sessions = sessions.iter().enumerate();
+    sessions.find_map(|(number, (session, expected))| {
+        Some((number, trouble_with(program, session, expected)?))
+    })
+}
+
+fn catch_boxes(seed: u64) -> bool {
     let mutants = all();
     let mut survivors = 0;
     for mutant in &mutants {
@@ -94,7 +159,15 @@ pub fn catch_all(seed: u64) -> bool {
         }
     }
     println!("{} mutants, {survivors} survived", mutants.len());
-    survivors == 0
+    is_enough("mutants", mutants.len(), LEAST_BOXES) && survivors == 0
+}
+
+/// Says so if there are too few.
+fn is_enough(name: &str, count: usize, least: usize) -> bool {
+    if count < least {
+        println!("too few: {name}: {count} of {least}");
+    }
+    count >= least
 }
 
 fn print_caught(mutant: &Mutant, cases: usize, mismatch: &Mismatch) {

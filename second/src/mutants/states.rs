@@ -6,6 +6,7 @@ use crate::model::answer::{Answer, Refusal};
 use crate::model::plan::{Plan, MOST_TRACKS};
 use crate::model::state::{first_routes, Arrays, State};
 use crate::model::step::step;
+use crate::subject::EVENT;
 
 pub const ALL: &[Slip] = &[
     ("a train may appear twice", Wrong::Load(train_twice)),
@@ -67,6 +68,20 @@ pub const ALL: &[Slip] = &[
     (
         "an incomplete single event is filled up",
         Wrong::StepArrays(filled_up),
+    ),
+    (
+        "a single event of more than three bytes is 11",
+        Wrong::StepArrays(|book, plan, arrays, event, spare| {
+            let played = if event.len() > EVENT { &[] } else { event };
+            book.any_step(plan, arrays, played, spare)
+        }),
+    ),
+    (
+        "of more than three bytes the last are played",
+        Wrong::StepArrays(|book, plan, arrays, event, spare| {
+            let played = &event[event.len().saturating_sub(EVENT)..];
+            book.any_step(plan, arrays, played, spare)
+        }),
     ),
 ];
 
@@ -154,7 +169,7 @@ fn filled_up(
     event: &[u8],
     spare: &mut State,
 ) -> Answer {
-    let mut whole = [0; 3];
-    whole[..event.len()].copy_from_slice(event);
+    let mut whole = event.to_vec();
+    whole.resize(event.len().max(EVENT), 0);
     book.any_step(plan, arrays, &whole, spare)
 }

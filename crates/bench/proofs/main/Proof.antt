@@ -1,7 +1,9 @@
--- `bench::main`: each part lies within its array, by what is said of the counts.
+-- `bench::main`: each part lies within its array, by what is said of the counts; a plan that reads and the fresh state are where serving begins.
 use mathlib.Core.Path.{sym}
 use native.Mathlib.Omega.{arith}
+use lib.ListN.{take}
 use lib.Seq.{length-take-le}
+use Rattle.bench.proofs.Served.{begins}
 use borrow.Author.Needs.{needs}
 use Rattle.bench.proofs.main.Statement.{statement}
 use Rattle.bench.proofs.main.Tie as tie
@@ -10,22 +12,24 @@ load-requires : tie.Need-load-requires
 load-requires c κs = search needs
 
 array-share-prefix-plan : tie.Need-array-share-prefix-plan
-array-share-prefix-plan c = c .load .ensures
+array-share-prefix-plan c = search needs
 
 slice-aggregate-file : tie.Need-slice-aggregate-file
 slice-aggregate-file c = sym (length-take-le _ (c .before .load .last .0) (c .before .load .ensures))
 
-slice-aggregate-signalbox-open : tie.Need-slice-aggregate-signalbox-open
-slice-aggregate-signalbox-open c = search needs
+slice-aggregate-first-line : tie.Need-slice-aggregate-first-line
+slice-aggregate-first-line c = search needs
 
-signalbox-open-requires : tie.Need-signalbox-open-requires
-signalbox-open-requires c κs = search needs
+first-line-requires : tie.Need-first-line-requires
+first-line-requires c κs = search needs
 
 array-share-prefix-first : tie.Need-array-share-prefix-first
 array-share-prefix-first c = search needs
 
 slice-aggregate-write-all : tie.Need-slice-aggregate-write-all
-slice-aggregate-write-all c = sym (length-take-le _ (c .before .before .signalbox-open .last .1 .0) (omega (arith, c .before .before .signalbox-open .ensures .within, c .before .before .signalbox-open .kept .1 .0)))
+slice-aggregate-write-all c =
+    let first = c .before .before .first-line in
+    sym (length-take-le _ (first .last .1 .0) (omega (arith, first .ensures .within, first .kept .1 .0)))
 
 write-all-requires : tie.Need-write-all-requires
 write-all-requires c κs = search needs
@@ -36,8 +40,32 @@ signalbox-read-requires c κs = search needs
 returns : tie.Need-returns
 returns c = search needs
 
-play-requires : tie.Need-play-requires
-play-requires c κs = search needs
+signalbox-fresh-requires : tie.Need-signalbox-fresh-requires
+signalbox-fresh-requires c κs = search needs
+
+serve-requires : tie.Need-serve-requires
+serve-requires c κs =
+    let begun = c .before .before .before in
+    let reads = begun .before .before .before .before in
+    let loaded = reads .before .before .before .before .before .before .before .before in
+    begins (take (loaded .load .result) (loaded .load .last .0)) (begun .signalbox-fresh .ensures) (reads .before .signalbox-read .ensures) (reads .if1 .left)
+
+slice-aggregate-last-line : tie.Need-slice-aggregate-last-line
+slice-aggregate-last-line c = search needs
+
+last-line-requires : tie.Need-last-line-requires
+last-line-requires c κs = search needs
+
+array-share-prefix-last : tie.Need-array-share-prefix-last
+array-share-prefix-last c = search needs
+
+slice-aggregate-write-all-2 : tie.Need-slice-aggregate-write-all-2
+slice-aggregate-write-all-2 c =
+    let last = c .before .before .last-line in
+    sym (length-take-le _ (last .last .1 .1 .1 .1 .0) (omega (arith, last .ensures .written .within, last .kept .1 .1 .1 .1 .0)))
+
+write-all-requires-2 : tie.Need-write-all-requires-2
+write-all-requires-2 c κs = search needs
 
 returns-2 : tie.Need-returns-2
 returns-2 c = search needs
@@ -49,12 +77,18 @@ main-spec =
     load-requires
     array-share-prefix-plan
     slice-aggregate-file
-    slice-aggregate-signalbox-open
-    signalbox-open-requires
+    slice-aggregate-first-line
+    first-line-requires
     array-share-prefix-first
     slice-aggregate-write-all
     write-all-requires
     signalbox-read-requires
     returns
-    play-requires
+    signalbox-fresh-requires
+    serve-requires
+    slice-aggregate-last-line
+    last-line-requires
+    array-share-prefix-last
+    slice-aggregate-write-all-2
+    write-all-requires-2
     returns-2)

@@ -7,6 +7,7 @@ use Rattle.signalbox.proofs.signalbox_open.Statement.{statement}
 use Rattle.signalbox.proofs.signalbox_open.Tie as tie
 
 -- The places, each with the way back to the one before it.
+
 abbrev start : tie.Else1 → tie.Start
 start c = c .before .before .before
 

@@ -1,60 +1,65 @@
--- `signalbox::signalbox_run`: the codes so far are those of the answers so far.
+-- `signalbox::signalbox_run`: something is in the way, or the codes so far are those of the answers so far.
+use mathlib.Core.Path.{sym, _∙_}
 use Prim.Native.Nat.{_-_}
 use native.Mathlib.Omega.{arith}
 use lib.ListN.{length}
 use denote.Ref.{now}
+use Rattle.reading.specs.Reading.{parse}
 use Rattle.state.specs.Cells.{stateIn}
-use Rattle.signalbox.specs.Face.{codeOf, runMost}
-use Rattle.signalbox.proofs.Faced.{unread, was-read}
-use Rattle.signalbox.proofs.Playing.{Playing, short, wrote-code, run-counted, playing-start, playing-readable, playing-same, playing-room, playing-turn, played-unread, played-ill, played-all}
+use Rattle.events.specs.Events.{eventsOf}
+use Rattle.events.proofs.Pieces.{events-length, events-at}
+use Rattle.signalbox.specs.Face.{codeOf, runReason}
+use Rattle.signalbox.proofs.Faced.{Ready, is-ready}
+use Rattle.signalbox.proofs.Playing.{run-stopped, run-crowded, run-free, short, wrote-code, played-none, Playing, playing-start, playing-readable, playing-same, playing-room, playing-there, playing-turn, playing-end}
 use borrow.Author.Needs.{needs}
 use Rattle.signalbox.proofs.signalbox_run.Statement.{statement}
 use Rattle.signalbox.proofs.signalbox_run.Tie as tie
 
 abbrev Inv-loop : tie.InvT-loop
-Inv-loop file cells₀ holds₀ events answers₀ image count i₀ cells holds answers i =
-    Playing codeOf (runMost events (length answers₀)) 1 file image events (stateIn cells₀ holds₀) answers₀ count i (stateIn cells holds) answers i
+Inv-loop file cells₀ holds₀ events answers₀ image reason count i₀ cells holds answers i =
+    Playing codeOf 1 file image (runReason (parse file) (stateIn cells₀ holds₀) (eventsOf events) (length answers₀)) (eventsOf events) (stateIn cells₀ holds₀) answers₀ count i
+    (stateIn cells holds) answers i
 
 abbrev μ-loop : tie.MeasureT-loop
-μ-loop file cells₀ holds₀ events answers₀ image count i₀ cells holds answers i = count - i
+μ-loop file cells₀ holds₀ events answers₀ image reason count i₀ cells holds answers i = count - i
 
-load-requires : tie.Need-load-requires Inv-loop μ-loop
-load-requires c κs = search needs
+-- The places, each with the way back to the one before it, and what is known past the first test.
 
-enum-told : tie.Need-enum-told Inv-loop μ-loop
-enum-told c = search needs
+abbrev start : tie.After-ready Inv-loop μ-loop → tie.Start Inv-loop μ-loop
+start c = c .before .before .before .before .before .before .before
 
-enum-told-2 : tie.Need-enum-told-2 Inv-loop μ-loop
-enum-told-2 c = search needs
+is-free : (c : tie.Else1 Inv-loop μ-loop)
+    → Ready (now (start (c .before) .args .file)) (c .before .ready .last .1 .1 .1 .0) (stateIn (now (start (c .before) .args .cells)) (now (start (c .before) .args .holds)))
+is-free c = is-ready _ (c .before .ready .ensures) (c .if1 .left)
+
+ready-requires : tie.Need-ready-requires Inv-loop μ-loop
+ready-requires c κs = search needs
 
 returns : tie.Need-returns Inv-loop μ-loop
 returns c =
-    let args = c .before .before .before .before .before .before .before .args in
-    played-unread codeOf (runMost (now (args .events)) (length (now (args .answers)))) (now (args .file)) (now (args .events)) (stateIn (now (args .cells)) (now (args .holds))) (now (args .answers))
-    (unread (now (args .file)) _ (c .before .before .load .ensures) (c .enum-told2 .given .1))
+    let s = start (c .before) in
+    played-none codeOf (now (s .args .file)) _ _ _ (run-stopped _ _ _ _ (c .before .ready .ensures .0) (c .if1 .taken)) (c .if1 .taken)
 
-well-formed-requires : tie.Need-well-formed-requires Inv-loop μ-loop
-well-formed-requires c κs = search needs
+event-count-requires : tie.Need-event-count-requires Inv-loop μ-loop
+event-count-requires c κs = search needs
 
 returns-2 : tie.Need-returns-2 Inv-loop μ-loop
 returns-2 c =
-    let told = c .before .before .before .before .before in
-    let args = told .before .before .before .before .before .before .before .args in
-    played-ill codeOf (runMost (now (args .events)) (length (now (args .answers)))) (now (args .file)) (now (args .events)) (stateIn (now (args .cells)) (now (args .holds))) (now (args .answers))
-    (was-read (now (args .file)) _ (told .before .before .load .ensures) (told .enum-told .given .1)) (c .before .well-formed .ensures) (c .if1 .taken)
-
-least-requires : tie.Need-least-requires Inv-loop μ-loop
-least-requires c κs = search needs
+    let free = c .before .before in
+    let s = start (free .before) in
+    played-none codeOf (now (s .args .file)) _ _ _ (run-crowded _ _ _ _ (is-free free .free) (rw (c .before .event-count .ensures) at (c .if2 .taken))) (λ z. omega arith)
 
 loop-holds : tie.Need-loop-holds Inv-loop μ-loop
 loop-holds c =
-    let told = c .before .before .before .before .before .before in
-    let args = told .before .before .before .before .before .before .before .args in
-    playing-start (was-read (now (args .file)) _ (told .before .before .load .ensures) (told .enum-told .given .1)) (run-counted (now (args .events)) (c .least .ensures))
-    (c .before .before .well-formed .ensures) (c .before .if1 .left)
+    let free = c .before .before in
+    let n = c .before .event-count .ensures in
+    playing-start (is-free free) (run-free _ _ _ _ (is-free free .free) (rw n at (c .if2 .left))) n (omega (arith, c .if2 .left))
 
 mul-event-at : tie.Need-mul-event-at Inv-loop μ-loop
-mul-event-at c = omega (arith, playing-room (c .before .before .before .before .loop .inv) (c .before .before .before .loop-test .taken) .1)
+mul-event-at c =
+    let turn = c .before .before .before in
+    let s = start (turn .before .before .before .before .before) in
+    omega (arith, playing-there (turn .before .loop .inv) (turn .loop-test .taken), events-length (now (s .args .events)), s .good .1 .1 .1 .0 .1)
 
 event-at-requires : tie.Need-event-at-requires Inv-loop μ-loop
 event-at-requires c κs = search needs
@@ -67,13 +72,12 @@ answer-code-requires c κs = search needs
 
 mul-answers : tie.Need-mul-answers Inv-loop μ-loop
 mul-answers c =
-    let at-loop-test = c .before .before .before .before .before .before in
-    let at-loop = at-loop-test .before in
-    let start = at-loop .before .before .before .before .before .before .before .before .before .before .before .before .before .before in
-    omega (arith, playing-room (at-loop .loop .inv) (at-loop-test .loop-test .taken) .0, start .good .1 .1 .1 .1 .0 .1)
+    let turn = c .before .before .before .before .before .before in
+    let s = start (turn .before .before .before .before .before) in
+    omega (arith, playing-room (turn .before .loop .inv) (turn .loop-test .taken), s .good .1 .1 .1 .1 .0 .1)
 
 slice-write-answers : tie.Need-slice-write-answers Inv-loop μ-loop
-slice-write-answers c = omega (arith, playing-room (c .before .before .before .before .before .before .before .loop .inv) (c .before .before .before .before .before .before .loop-test .taken) .0)
+slice-write-answers c = let turn = c .before .before .before .before .before .before in omega (arith, playing-room (turn .before .loop .inv) (turn .loop-test .taken))
 
 add-i : tie.Need-add-i Inv-loop μ-loop
 add-i c = search needs
@@ -83,16 +87,17 @@ loop-less c = search needs
 
 loop-again : tie.Need-loop-again Inv-loop μ-loop
 loop-again c =
-    let e = c .before .before .event-at .ensures in
-    let l = c .before .before .before .before .before .before .before .loop .inv in
-    let h = c .before .before .before .before .before .before .loop-test .taken in
-    playing-turn l h short (rw e at (c .before .play .ensures .0)) (rw e at (c .before .play .ensures .1)) (wrote-code _ (c .answer-code .ensures) (playing-room l h .0))
+    let turn = c .before .before .before .before .before .before in
+    let l = turn .before .loop .inv in
+    let h = turn .loop-test .taken in
+    playing-turn l h (c .before .before .event-at .ensures ∙ sym (events-at _ _ (playing-there l h))) short (c .before .play .ensures .0) (c .before .play .ensures .1)
+    (wrote-code _ (c .answer-code .ensures) (playing-room l h))
 
 same-length : tie.Need-same-length Inv-loop μ-loop
 same-length c = playing-same (c .before .loop .inv)
 
 returns-3 : tie.Need-returns-3 Inv-loop μ-loop
-returns-3 c = played-all (c .before .loop .inv) (c .loop-test .left)
+returns-3 c = playing-end (c .before .loop .inv) (c .loop-test .left)
 
 pub signalbox-run-spec : {M : Type 1} → statement M
 signalbox-run-spec =
@@ -100,13 +105,10 @@ signalbox-run-spec =
     (tie.spec
     Inv-loop
     μ-loop
-    load-requires
-    enum-told
-    enum-told-2
+    ready-requires
     returns
-    well-formed-requires
+    event-count-requires
     returns-2
-    least-requires
     loop-holds
     mul-event-at
     event-at-requires

@@ -1,0 +1,158 @@
+-- A turn serves, and turns one after the other do. Assumes nothing.
+use mathlib.Core.Path.{_≡_, refl, sym, ap, _∙_}
+use mathlib.Core.List.{List, [], _∷_, _++_, append-nil}
+use Prim.Native.Nat.{ℕ, _+_, _-_, _*_, _/_, _^_, _<_, _≤_}
+use native.Mathlib.Omega.{arith}
+use lib.ListN.{length, take, replicate, length-append, length-replicate}
+use lib.Seq.{length-take-le}
+use borrow.Author.Tests.{le-ltb}
+use Rattle.plan.specs.Records.{Plan}
+use Rattle.reading.specs.Reading.{Got, form, got, parse}
+use Rattle.state.specs.declared.State.{State}
+use Rattle.events.specs.Events.{eventsOf, wholeEvents, leftOver, unfinishedIn, unfinishedCells}
+use Rattle.events.proofs.Pieces.{events-length, whole-length, left-few, waiting-count, cells-hold}
+use Rattle.lines.specs.Lines.{lineMost}
+use Rattle.lines.specs.Written.{Wrote}
+use Rattle.demands.specs.Demands.{reached}
+use Rattle.demands.specs.Session.{stateAfter, firstLine, Between, due, fed, ended}
+use Rattle.demands.proofs.Session.{sessions}
+use Rattle.codes.specs.Codes.{readCode}
+use Rattle.signalbox.specs.declared.Outcome.{Outcome}
+use Rattle.signalbox.specs.Face.{Started, tooMany, unless, standing, Feeds, Finishes, openReason, Opened}
+use Rattle.signalbox.proofs.Playing.{line-free}
+use Rattle.signalbox.proofs.Feeding.{short, brief, still-free, fresh-free}
+use Rattle.signalbox.proofs.Called.{feed-said, feed-stands}
+use Rattle.bench.specs.declared.Exchange.{Exchange}
+use Rattle.bench.specs.Serving.{pieceMost, linesMost, Serves, Served, Turned, ServedOn, Ended}
+
+-- One turn: where there is room for a line for each three bytes with two more before them, all is played.
+module _ (file bytes : List ℕ) {σ : State} {unfinished out : List ℕ} {r : Outcome} {τ : State} {unfinished′ out′ : List ℕ}
+    (s : Serves (parse file) σ unfinished) (few : length bytes ≤ pieceMost) (room : linesMost ≤ length out) (f : Feeds (parse file) σ unfinished bytes out r τ unfinished′ out′) where
+  abbrev b : Between
+  b = standing σ unfinished
+
+  fits : length (due b bytes) ≤ length out / lineMost
+  fits =
+      let w = whole-length (b .unfinished ++ bytes) in
+      let n = length-append (b .unfinished) bytes in
+      let c = waiting-count unfinished in
+      omega arith
+
+  done : r .code ≡ 0
+  done = f .code ∙ line-free (parse file) σ (due b bytes) (length out) unfinished (s .free) (short unfinished (s .few)) fits
+
+  turn-served : Served (parse file) σ unfinished bytes τ unfinished′
+  unfolding unless fed
+  turn-served =
+      let z = sym (f .code) ∙ done in
+      let t : τ ≡ fed (parse file) b bytes .state = rw z at (f .state) in
+      let k : unfinished′ ≡ unfinishedCells (fed (parse file) b bytes .unfinished) = rw z at (f .kept) in
+      record {
+        stands = feed-stands file σ unfinished bytes f done;
+        serves = record { free = rw t (still-free file σ (due b bytes) (s .free)); few = rw k (brief _ (left-few (b .unfinished ++ bytes))) };
+      }
+
+  pub turned : {n : ℕ} {bytes′ : List ℕ} → take n bytes′ ≡ bytes → n ≤ length bytes′ → length out′ ≡ length out → Turned (parse file) σ unfinished (record { read = n; written = r .written }) τ unfinished′ bytes′ out′
+  turned e m l = record {
+    served = rw e turn-served;
+    said = feed-said file σ unfinished bytes f done ∙ rw e;
+    some = m;
+    within = omega (arith, f .written .within, l);
+  }
+
+-- The program's buffers are so long.
+
+pub full-piece : length (replicate {A = ℕ} pieceMost 0) ≤ pieceMost
+full-piece = let l = length-replicate {A = ℕ} pieceMost 0 in omega arith
+
+pub still : {n m most : ℕ} → n ≡ m → m ≤ most → n ≤ most
+still e h = rw e h
+
+long : (n : ℕ) → n ≤ length (replicate {A = ℕ} n 0)
+long n = let l = length-replicate {A = ℕ} n 0 in omega arith
+
+pub full-lines : linesMost ≤ length (replicate {A = ℕ} linesMost 0)
+full-lines = long linesMost
+
+-- Turns.
+
+few-whole : (x : List ℕ) → length x ≤ 2 → wholeEvents x ≡ []
+unfolding wholeEvents
+few-whole [] h = refl
+few-whole (a ∷ []) h = refl
+few-whole (a ∷ (b ∷ [])) h = refl
+few-whole (a ∷ (b ∷ (c ∷ x))) h = absurd (omega arith)
+
+few-left : (x : List ℕ) → length x ≤ 2 → leftOver x ≡ x
+unfolding leftOver
+few-left [] h = refl
+few-left (a ∷ []) h = refl
+few-left (a ∷ (b ∷ [])) h = refl
+few-left (a ∷ (b ∷ (c ∷ x))) h = absurd (omega arith)
+
+none-played : (g : Got Plan) (σ : State) → stateAfter g σ [] ≡ σ
+unfolding stateAfter reached
+none-played (form f) σ = refl
+none-played (got p at rest) σ = refl
+
+served-start : (g : Got Plan) (σ : State) (unfinished : List ℕ) → Serves g σ unfinished → Served g σ unfinished [] σ unfinished
+unfolding fed
+served-start g σ unfinished s =
+    let x = unfinishedIn unfinished in
+    let h : length x ≤ 2 = (let c = waiting-count unfinished in omega arith) in
+    record { stands = rw (append-nil x, few-whole x h, few-left x h, none-played g σ); serves = s }
+
+served-then : (g : Got Plan) {σ : State} {unfinished bytes : List ℕ} {τ : State} {unfinished′ more : List ℕ} {υ : State} {unfinished″ : List ℕ}
+    → Served g σ unfinished bytes τ unfinished′ → Served g τ unfinished′ more υ unfinished″ → Served g σ unfinished (bytes ++ more) υ unfinished″
+served-then g {σ} {unfinished} {bytes} {more = more} a b = record {
+  stands = b .stands ∙ ap (λ x. fed g x more) (a .stands) ∙ sessions .one-piece g (standing σ unfinished) bytes more;
+  serves = b .serves;
+}
+
+-- What holds where the loop tests: all that was read so far was fed, and there are numbers enough to count what is still to come.
+pub record Serving (g : Got Plan) (σ : State) (unfinished : List ℕ) (total turns : ℕ) (τ : State) (unfinished′ : List ℕ) : Type 0 where
+  pub on : ServedOn g σ unfinished total τ unfinished′
+  pub room : total + pieceMost * turns < 2 ^ 64
+
+pub serving-start : (g : Got Plan) (σ : State) (unfinished : List ℕ) {turns : ℕ} → Serves g σ unfinished → pieceMost * turns < 2 ^ 64 → Serving g σ unfinished 0 turns σ unfinished
+serving-start g σ unfinished s h = record { on = record { bytes = []; many = refl; served = served-start g σ unfinished s }; room = omega arith }
+
+module _ {g : Got Plan} {σ : State} {unfinished : List ℕ} {total turns : ℕ} {τ : State} {unfinished′ : List ℕ} (l : Serving g σ unfinished total turns τ unfinished′)
+    {r : Exchange} {υ : State} {unfinished″ bytes′ lines′ : List ℕ} (t : Turned g τ unfinished′ r υ unfinished″ bytes′ lines′) where
+  after : {n : ℕ} → n ≡ total + r .read → ServedOn g σ unfinished n υ unfinished″
+  after e = record {
+    bytes = l .on .bytes ++ take (r .read) bytes′;
+    many = length-append (l .on .bytes) _ ∙ rw (l .on .many, length-take-le (r .read) bytes′ (t .some), e);
+    served = served-then g (l .on .served) (t .served);
+  }
+
+  pub serving-end : r .read ≡ 0 → ServedOn g σ unfinished total υ unfinished″
+  serving-end z = after (omega arith)
+
+  module _ (few : length bytes′ ≤ pieceMost) (h : 0 < turns) where
+    pub serving-room : total + r .read < 2 ^ 64
+    serving-room = let m = l .room in let k = t .some in omega arith
+
+    pub serving-turn : Serving g σ unfinished (total + r .read) (turns - 1) υ unfinished″
+    serving-turn = let m = l .room in let k = t .some in record { on = after refl; room = omega arith }
+
+-- The end: nothing is in the way of the last line.
+pub ended-all : (file : List ℕ) {σ : State} {unfinished out : List ℕ} {r : Outcome} {τ : State} {unfinished′ out′ : List ℕ} → Serves (parse file) σ unfinished → lineMost ≤ length out
+    → Finishes (parse file) σ unfinished out r τ unfinished′ out′ → Ended (parse file) σ unfinished out (r .written) τ unfinished′ out′
+unfolding unless ended
+ended-all file {σ} {unfinished} {out} s room f =
+    let n = events-length (unfinishedIn unfinished) in
+    let c = waiting-count unfinished in
+    let z = line-free (parse file) σ (eventsOf (unfinishedIn unfinished)) (length out) unfinished (s .free) (short unfinished (s .few)) (omega arith) in
+    let k = rw z at (f .kept) in
+    record { stands = rw (rw z at (f .state), k, cells-hold [] (omega arith)); written = rw z at (f .written) }
+
+-- The first line has room.
+pub first-all : (file : List ℕ) {out : List ℕ} {r : Outcome} {out′ : List ℕ} → lineMost ≤ length out → Opened (parse file) out r out′ → Wrote (firstLine (parse file)) out 0 out′ (r .written)
+unfolding unless openReason tooMany
+first-all file {out = out} room o = rw (le-ltb (length out / lineMost) 1 (omega arith)) at (o .written)
+
+-- A session begins: the plan reads, and the state is the fresh one.
+pub begins : (file : List ℕ) {σ : State} {unfinished : List ℕ} → Started σ unfinished → {code : ℕ} → code ≡ readCode (parse file) → code ≡ 0 → Serves (parse file) σ unfinished
+unfolding unfinishedCells
+begins file {σ = σ} s r z = record { free = fresh-free file σ (s .state) (sym r ∙ z); few = rw (s .none) (brief [] (omega arith)) }

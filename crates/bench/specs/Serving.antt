@@ -1,0 +1,51 @@
+-- The program between two reads: what a turn begins with, and what a turn, any turns and the end leave. Which bytes a read hands over is the C library's
+-- affair.
+use mathlib.Core.Path.{_≡_}
+use mathlib.Core.List.{List}
+use lib.ListN.{length, take}
+use Prim.Native.Nat.{ℕ, _+_, _*_, _/_, _≤_}
+use Rattle.plan.specs.Records.{Plan}
+use Rattle.reading.specs.Reading.{Got}
+use Rattle.state.specs.declared.State.{State}
+use Rattle.lines.specs.Lines.{lineMost}
+use Rattle.lines.specs.Written.{Wrote}
+use Rattle.demands.specs.Session.{fed, fedLines, ended, endLines}
+use Rattle.signalbox.specs.Face.{inTheWay, tooLong, standing}
+use Rattle.bench.specs.declared.Exchange.{Exchange}
+
+-- The most bytes that one read takes; with two bytes before them they make so many events whole, and there is room for the lines of these.
+
+abbrev pub pieceMost : ℕ
+pieceMost = 3072
+
+abbrev pub linesMost : ℕ
+linesMost = (pieceMost + 2) / 3 * lineMost
+
+-- A turn may begin: no reason is there against feeding but too little room.
+pub record Serves (g : Got Plan) (σ : State) (unfinished : List ℕ) : Type 0 where
+  pub free : inTheWay g σ ≡ 0
+  pub few : tooLong unfinished ≡ 0
+
+-- These bytes were fed, from whatever stood there at first, and what stands there now is what they give.
+pub record Served (g : Got Plan) (σ : State) (unfinished bytes : List ℕ) (τ : State) (unfinished′ : List ℕ) : Type 0 where
+  pub stands : standing τ unfinished′ ≡ fed g (standing σ unfinished) bytes
+  pub serves : Serves g τ unfinished′
+
+-- A turn: the bytes that now stand at the start of the one buffer were fed, and their lines stand at the start of the other.
+pub record Turned (g : Got Plan) (σ : State) (unfinished : List ℕ) (r : Exchange) (τ : State) (unfinished′ bytes′ lines′ : List ℕ) : Type 0 where
+  pub served : Served g σ unfinished (take (r .read) bytes′) τ unfinished′
+  pub said : take (r .written) lines′ ≡ fedLines g (standing σ unfinished) (take (r .read) bytes′)
+  pub some : r .read ≤ length bytes′
+  pub within : r .written ≤ length lines′
+
+-- After any number of turns there are bytes of which this holds, as many as were read. A program that leaves the same state, or nothing unfinished,
+-- whatever it began with, doesn't meet this (proofs/Anew.antt).
+pub record ServedOn (g : Got Plan) (σ : State) (unfinished : List ℕ) (count : ℕ) (τ : State) (unfinished′ : List ℕ) : Type 0 where
+  pub bytes : List ℕ
+  pub many : length bytes ≡ count
+  pub served : Served g σ unfinished bytes τ unfinished′
+
+-- The end of the input: the line of an incomplete event, and nothing is unfinished.
+pub record Ended (g : Got Plan) (σ : State) (unfinished out : List ℕ) (r : ℕ) (τ : State) (unfinished′ out′ : List ℕ) : Type 0 where
+  pub stands : standing τ unfinished′ ≡ ended g (standing σ unfinished)
+  pub written : Wrote (endLines g (standing σ unfinished)) out 0 out′ r

@@ -1,0 +1,40 @@
+-- A session of calls at the face, each by its contract alone, and each done: `fresh`, `open`, a `feed` for each piece of the input, `finish`. What
+-- they write, one after the other, is what is printed (proofs/Called.antt, as-printed).
+use mathlib.Core.Path.{_≡_}
+use mathlib.Core.List.{List, [], _∷_, _++_}
+use Prim.Native.Nat.{ℕ}
+use lib.ListN.{take}
+use Rattle.reading.specs.Reading.{parse}
+use Rattle.state.specs.declared.State.{State}
+use Rattle.demands.specs.Session.{printed, whole}
+use Rattle.signalbox.specs.declared.Outcome.{Outcome}
+use Rattle.signalbox.specs.Face.{Started, Opened, Feeds, Finishes}
+
+-- A call: the buffer that is lent, and what is then handed back and left.
+pub record Call : Type 0 where
+  pub out : List ℕ
+  pub outcome : Outcome
+  pub state : State
+  pub unfinished : List ℕ
+  pub out′ : List ℕ
+
+-- what it has written
+abbrev pub said : Call → List ℕ
+said c = take (c .outcome .written) (c .out′)
+
+abbrev pub Done : Call → Type 0
+Done c = c .outcome .code ≡ 0
+
+-- a feed for each piece, then the finish, from a state and an unfinished event on: all that they write
+unfoldable pub Says : List ℕ → State → List ℕ → List (List ℕ) → List ℕ → Type 0
+Says file σ unfinished [] lines =
+    (c : Call) × Done c × Finishes (parse file) σ unfinished (c .out) (c .outcome) (c .state) (c .unfinished) (c .out′) × (lines ≡ said c)
+Says file σ unfinished (piece ∷ pieces) lines =
+    (c : Call) × (more : List ℕ) × Done c × Feeds (parse file) σ unfinished piece (c .out) (c .outcome) (c .state) (c .unfinished) (c .out′)
+    × Says file (c .state) (c .unfinished) pieces more × (lines ≡ said c ++ more)
+
+-- However the input is cut: the plan's line, and then theirs, are what is printed for the whole.
+abbrev pub AsPrinted : Type 0
+AsPrinted =
+    (file : List ℕ) (pieces : List (List ℕ)) (σ : State) (unfinished : List ℕ) → Started σ unfinished → (out : List ℕ) (r : Outcome) (out′ : List ℕ)
+    → Opened (parse file) out r out′ → r .code ≡ 0 → (lines : List ℕ) → Says file σ unfinished pieces lines → take (r .written) out′ ++ lines ≡ printed file (whole pieces)
