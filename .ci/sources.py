@@ -70,33 +70,74 @@ def short(clause):
 
 class Function:
     def __init__(self, path, file, parameters, result, clauses, body, exported):
-        self.path, self.file, self.result, self.body, self.exported = path, file, result, body, exported
+        self.path, self.file, self.body, self.exported = path, file, body, exported
+        # the type of what is handed back, and whether anything is
+        self.type, self.result = result, result not in ('', '()')
         self.parameters = [part for part in parts(parameters, ',') if part]
         self.lent = re.findall(r"(\w+)\s*:\s*&\s*(?:'\w+\s+)?mut\b", parameters)
         self.requires = ' × '.join(short(text) for kind, text in clauses if kind == 'requires')
         self.ensures = ' × '.join(short(text) for kind, text in clauses if kind == 'ensures')
         self.calls = set()
 
-    def loose(self):
-        """Why the contract is no equality that fixes what is handed back and all that is lent to be written, or nothing."""
+    def shapes(self, heads):
+        """The parts of the contract, each as its shape, the results that it speaks of in their order and its text; and why it leaves open what is
+        handed back or what is lent to be written, or None. `heads` has, for each name that a part may begin with, the record that it stands for."""
         if self.body is None:
-            return 'is declared without a body'
+            return [], 'is declared without a body'
         if not self.ensures:
-            return 'has no ensures'
+            return [], 'has no ensures'
         if re.search(r'\.(?:entry|exit)\b|\bnow\b', self.ensures):
-            return 'has a contract that reads lent memory in a way that is not known here'
-        fixed = set()
+            return [], 'has a contract that reads lent memory in a way that is not known here'
+        found, fixed = [], set()
         for part in parts(self.ensures, '×'):
-            sides = parts(unwrapped(part), '≡')
-            names = re.findall(r'[^\s()]+', sides[0])
-            state = names == ['stateIn', 'cells′', 'holds′']
-            if len(sides) != 2 or re.search('[→⊎∨↔]', part) or not (state or len(names) == 1 and re.fullmatch(r'r|\w+′', names[0])):
-                return 'has a contract that is no equality with a definition of the inputs'
-            if re.search(r'(?<![\w.])r\b|′', sides[1]):
-                return 'has a contract whose right side is not of the inputs alone'
-            fixed.update(names)
+            shape, results, inputs = shape_of(unwrapped(part), heads)
+            if not shape:
+                return [], 'has a contract of no shape that is known here'
+            if any(re.search(r'(?<![\w.])r\b|′', text) for text in inputs):
+                return [], 'has a contract that fixes a result by another'
+            found.append((shape, results, unwrapped(part)))
+            fixed.update(name for result in results for name in re.findall(r"\w+′|\br\b", result))
         missing = [x + '′' for x in self.lent if x + '′' not in fixed] + (['r'] if self.result and 'r' not in fixed else [])
-        return f'has a contract that leaves {", ".join(missing)} open' if missing else None
+        return found, f'has a contract that leaves {", ".join(missing)} open' if missing else None
+
+
+RESULT = re.compile(r'r|\w+′|\(?stateIn cells′ holds′\)?')
+
+
+def shape_of(part, heads):
+    """The shape of one part of a contract, with the results that it fixes and what it fixes them by: an equality of a result, of the state in the
+    two lent arrays, of a field, or for any value of something; or a record, of which each result is an argument. No shape: None."""
+    bound = re.fullmatch(r'\(\w+ : [^()]*\) → (.*)', part)
+    sides = parts(bound[1] if bound else part, '≡')
+    if len(sides) == 2 and not re.search('[→⊎∨↔]', sides[0] + sides[1]):
+        field = re.fullmatch(r'r (\.\w+)', sides[0])
+        if field and not bound:
+            return f'`{field[1]}`', ['r'], sides[1:]
+        if RESULT.fullmatch(sides[0]):
+            state = 'stateIn' in sides[0]
+            return (None if state else 'for any') if bound else 'state' if state else 'equality', sides[:1], sides[1:]
+        return None, [], []
+    head, *rest = arguments(part)
+    if len(sides) > 1 or bound or head not in heads:
+        return None, [], []
+    return f'`{heads[head]}`', [a for a in rest if RESULT.fullmatch(a)], [a for a in rest if not RESULT.fullmatch(a)]
+
+
+def arguments(text):
+    """A term's head and its arguments."""
+    return [word for word in parts(text, ' ') if word]
+
+
+def heads_of(root, records):
+    """What a part of a contract may begin with: a record that has a law, or a definition that stands for it, with that record."""
+    found = {record: record for record in records}
+    for file in sorted(Path(root).glob('crates/*/specs/**/*.antt')):
+        for name, body in re.findall(r'^abbrev pub (\w+) : [^\n]*\n\1 [^=\n]*=((?:.|\n)*?)(?=\n\n|\Z)', file.read_text(), re.M):
+            last = re.sub(r'^\s*(?:let [^\n]* in\s*)*', '', body)
+            word = re.match(r'\w+', last)
+            if word and word[0] in records:
+                found[name] = word[0]
+    return found
 
 
 def read_file(root, file):
@@ -139,7 +180,7 @@ def read_function(plain, text, at, path, file, exported):
     begin = at
     while not re.match(r'[{;]|\b(?:requires|ensures)\b', plain[at:]):
         at = closing(plain, at) if plain[at] in '([' else at + 1
-    result = plain[begin:at].partition('->')[2].strip() not in ('', '()')
+    result = plain[begin:at].partition('->')[2].strip()
     clauses = []
     while True:
         m = re.compile(r'\s*(requires|ensures)\b[^{;]*(?=\{)').match(plain, at)

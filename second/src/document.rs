@@ -78,7 +78,7 @@ fn session(
 }
 
 /// The bench plan with a stretch of it exchanged for other bytes.
-fn bench_with(stretch: std::ops::Range<usize>, bytes: &[u8]) -> Vec<u8> {
+pub fn bench_with(stretch: std::ops::Range<usize>, bytes: &[u8]) -> Vec<u8> {
     let mut plan = BENCH_PLAN.to_vec();
     plan.splice(stretch, bytes.iter().copied());
     plan

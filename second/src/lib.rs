@@ -1,20 +1,29 @@
 //! An independent second program for the junction box. The model follows document 01 alone; its
 //! readings of that document are listed in `README.md`, shown at the top of `main.rs`.
 
+pub mod accepted;
 pub mod bench;
 pub mod book;
 #[cfg(feature = "boxed")]
 pub mod boxed;
 pub mod compare;
+pub mod definitions;
 pub mod document;
+pub mod forms;
 pub mod generate;
+pub mod junctions;
 pub mod limits;
 pub mod long;
 pub mod model;
 pub mod mutants;
+pub mod numbers;
+pub mod orders;
+pub mod parts;
 pub mod program;
 pub mod random;
 pub mod rows;
 pub mod sessions;
+pub mod singles;
 pub mod subject;
+pub mod told;
 pub mod writing;

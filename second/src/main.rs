@@ -3,7 +3,7 @@
 use second::book::MODEL;
 use second::compare::driver::{self, Search};
 use second::subject::{Kept, Lent, Subject, EVENT, LINE};
-use second::{bench, limits, mutants, program, sessions};
+use second::{bench, definitions, limits, mutants, program, sessions, singles};
 use std::io::{self, Read, Write};
 use std::path::Path;
 use std::process::ExitCode;
@@ -12,6 +12,9 @@ const USAGE: &str = "usage: second [--long] [--seed N] [--trace]  compare the bo
        second --case SEED                  compare one case again
        second --mutants [--seed N]         catch every mutant
        second --program PATH [--seed N]    compare a program with the model
+       second --readable DIR [--seed N]    catch every wrong definition in the session folders
+       second --list DIR                   print the list of wrong definitions, definitions.txt
+       second --steps                      print the text of the single steps, steps.txt
        second --bench                      print times
        second --limits                     print the sizes that it goes by
        second sessions DIR                 write the session folders
@@ -55,6 +58,15 @@ fn carry_out(words: &[&str]) -> Option<bool> {
         ["--program", path, ref options @ ..] => {
             let seed = search(options)?.seed;
             Some(said(seed, program::compare(Path::new(path), seed)))
+        }
+        ["--readable", directory, ref options @ ..] => {
+            let seed = search(options)?.seed;
+            Some(said(seed, readable(Path::new(directory), seed)))
+        }
+        ["--list", directory] => Some(print_list(Path::new(directory))),
+        ["--steps"] => {
+            print!("{}", singles::told());
+            Some(true)
         }
         ["--bench"] => {
             bench::bench(other_subject());
@@ -103,6 +115,24 @@ fn said(seed: u64, good: bool) -> bool {
     let words = if good { "good" } else { "NOT good" };
     println!("seed {seed}: {words}");
     good
+}
+
+fn readable(directory: &Path, seed: u64) -> bool {
+    definitions::catch_all(directory, seed, other_subject()).unwrap_or_else(|error| {
+        eprintln!("{}: {error}", directory.display());
+        false
+    })
+}
+
+fn print_list(directory: &Path) -> bool {
+    match definitions::folders::in_full(directory) {
+        Ok(folders) => print!("{}", definitions::list::list(&folders)),
+        Err(error) => {
+            eprintln!("{}: {error}", directory.display());
+            return false;
+        }
+    }
+    true
 }
 
 fn write_sessions(directory: &Path) -> bool {

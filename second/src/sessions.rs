@@ -1,23 +1,37 @@
 //! Session folders: what goes into the program and exactly what must come out.
 
+use crate::accepted;
 use crate::document::{self, Session, BENCH_PLAN};
+use crate::forms;
 use crate::generate::largest::largest;
+use crate::junctions;
 use crate::long;
 use crate::model::plan::LARGEST_FILE;
+use crate::numbers;
+use crate::orders;
+use crate::parts;
 use crate::random::Random;
 use crate::rows;
+use crate::told::told;
 use crate::writing::write;
 use std::fs;
 use std::io;
 use std::path::Path;
 
 /// Every session: those of the document, the odd ends of files and event lists, the last rows and
-/// the long ones.
+/// the parts of the rules, the files with one bad byte, the small junctions, what is
+/// allowed and the long ones.
 pub fn all() -> Vec<Session> {
     let mut sessions = document::sessions();
     sessions.extend(odd_plans());
     sessions.extend(odd_endings());
     sessions.extend(rows::sessions());
+    sessions.extend(parts::sessions());
+    sessions.extend(forms::sessions());
+    sessions.extend(numbers::sessions());
+    sessions.extend(junctions::sessions());
+    sessions.extend(orders::sessions());
+    sessions.extend(accepted::sessions());
     sessions.extend(long::sessions());
     sessions
 }
@@ -89,7 +103,7 @@ fn odd_endings() -> Vec<Session> {
         ),
         session(
             "ending-of-one-byte",
-            "The last event has one byte, and there is nothing it could mean.",
+            "The last event has one byte: it is an incomplete one, and is 11.",
             &[4],
             "refused 11\n",
         ),
@@ -102,22 +116,29 @@ fn odd_endings() -> Vec<Session> {
     ]
 }
 
-/// Writes each session into a folder of its name.
+/// The files of a session's folder. Where there is no plan there is no file of it.
+pub fn files(session: &Session) -> Vec<(&'static str, Vec<u8>)> {
+    let plan = session.plan.iter().map(|plan| ("plan.bin", plan.clone()));
+    let others = [
+        ("events.bin", session.events.clone()),
+        ("expected.txt", session.expected.clone().into_bytes()),
+        ("session.txt", told(session).into_bytes()),
+    ];
+    plan.chain(others).collect()
+}
+
+/// Writes each session into a folder of its name, in which nothing else stays.
 pub fn write_all(directory: &Path) -> io::Result<usize> {
     let sessions = all();
     for session in &sessions {
         let folder = directory.join(session.name);
         fs::create_dir_all(&folder)?;
-        let plan = folder.join("plan.bin");
-        match &session.plan {
-            Some(bytes) => fs::write(plan, bytes)?,
-            // An earlier run may have left one where there must be none.
-            None if plan.exists() => fs::remove_file(plan)?,
-            None => {}
+        for left in fs::read_dir(&folder)? {
+            fs::remove_file(left?.path())?;
         }
-        fs::write(folder.join("events.bin"), &session.events)?;
-        fs::write(folder.join("expected.txt"), &session.expected)?;
-        fs::write(folder.join("about.txt"), format!("{}\n", session.about))?;
+        for (name, bytes) in files(session) {
+            fs::write(folder.join(name), bytes)?;
+        }
     }
     Ok(sessions.len())
 }

@@ -150,23 +150,3 @@ fn a_cancelled_route_leaves_its_point_reverse_and_unheld() {
     assert!(state.holds[2].is_empty());
     assert_eq!(state.signals, [None, None]);
 }
-
-#[test]
-fn session_folders_are_written_as_they_are() {
-    let directory = std::env::temp_dir().join(format!("second-sessions-{}", std::process::id()));
-    let count = second::sessions::write_all(&directory).expect("the folders can be written");
-    for session in second::sessions::all() {
-        let folder = directory.join(session.name);
-        let bytes = |name: &str| std::fs::read(folder.join(name)).ok();
-        assert_eq!(bytes("plan.bin"), session.plan, "{}", session.name);
-        assert_eq!(bytes("events.bin"), Some(session.events));
-        assert_eq!(bytes("expected.txt"), Some(session.expected.into_bytes()));
-        let about = format!("{}\n", session.about).into_bytes();
-        assert_eq!(bytes("about.txt"), Some(about));
-    }
-    let folders = std::fs::read_dir(&directory)
-        .expect("the folder is there")
-        .count();
-    assert_eq!(folders, count);
-    std::fs::remove_dir_all(&directory).expect("the folder can be removed");
-}

@@ -1,3 +1,4 @@
 pub mod Walks
 pub mod Named
 pub mod Acts
+pub mod Results

@@ -50,5 +50,6 @@ unfinished-lost count always = let none = left [] (omega arith) in let one = lef
     left x h =
         let w = always aloneFile turned (unfinishedCells x) (begun x h) .1 in
         let u = ap (λ (b : Between). length (b .unfinished)) (w .served .stands) in
-        let z : length (leftOver (x ++ w .bytes)) ≡ 0 = rw (cells-hold x (omega arith), cells-hold [] (omega arith)) at (sym u) in
+        let z : length (leftOver (x ++ w .bytes)) ≡ 0
+        = ap (λ (y : List ℕ). length (leftOver (y ++ w .bytes))) (sym (cells-hold x (omega arith))) ∙ sym u ∙ ap (λ (y : List ℕ). length y) (cells-hold [] (omega arith)) in
         rw (← w .many, ← length-append x (w .bytes)) (sym (left-length (x ++ w .bytes)) ∙ z)

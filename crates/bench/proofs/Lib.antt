@@ -1,2 +1,3 @@
 pub mod Anew
 pub mod Served
+pub mod Results

@@ -1,16 +1,17 @@
 -- The program between two reads: what a turn begins with, and what a turn, any turns and the end leave. Which bytes a read hands over is the C library's
 -- affair.
 use mathlib.Core.Path.{_≡_}
-use mathlib.Core.List.{List}
+use mathlib.Core.List.{List, []}
 use lib.ListN.{length, take}
 use Prim.Native.Nat.{ℕ, _+_, _*_, _/_, _≤_}
 use Rattle.plan.specs.Records.{Plan}
 use Rattle.reading.specs.Reading.{Got}
 use Rattle.state.specs.declared.State.{State}
+use Rattle.events.specs.Events.{unfinishedCells}
 use Rattle.lines.specs.Lines.{lineMost}
 use Rattle.lines.specs.Written.{Wrote}
-use Rattle.demands.specs.Session.{fed, fedLines, ended, endLines}
-use Rattle.signalbox.specs.Face.{inTheWay, tooLong, standing}
+use Rattle.demands.specs.Session.{fed, ended, endLines}
+use Rattle.signalbox.specs.Face.{inTheWay, tooLong, standing, Feeds}
 use Rattle.bench.specs.declared.Exchange.{Exchange}
 
 -- The most bytes that one read takes; with two bytes before them they make so many events whole, and there is room for the lines of these.
@@ -31,12 +32,10 @@ pub record Served (g : Got Plan) (σ : State) (unfinished bytes : List ℕ) (τ 
   pub stands : standing τ unfinished′ ≡ fed g (standing σ unfinished) bytes
   pub serves : Serves g τ unfinished′
 
--- A turn: the bytes that now stand at the start of the one buffer were fed, and their lines stand at the start of the other.
-pub record Turned (g : Got Plan) (σ : State) (unfinished : List ℕ) (r : Exchange) (τ : State) (unfinished′ bytes′ lines′ : List ℕ) : Type 0 where
-  pub served : Served g σ unfinished (take (r .read) bytes′) τ unfinished′
-  pub said : take (r .written) lines′ ≡ fedLines g (standing σ unfinished) (take (r .read) bytes′)
+-- A turn: the bytes that now stand at the start of the one buffer were fed, all of them, with the other for their lines.
+pub record Turned (g : Got Plan) (σ : State) (unfinished lines : List ℕ) (r : Exchange) (τ : State) (unfinished′ bytes′ lines′ : List ℕ) : Type 0 where
   pub some : r .read ≤ length bytes′
-  pub within : r .written ≤ length lines′
+  pub feeds : Feeds g σ unfinished (take (r .read) bytes′) lines (record { code = 0; written = r .written }) τ unfinished′ lines′
 
 -- After any number of turns there are bytes of which this holds, as many as were read. A program that leaves the same state, or nothing unfinished,
 -- whatever it began with, doesn't meet this (proofs/Anew.antt).
@@ -47,5 +46,25 @@ pub record ServedOn (g : Got Plan) (σ : State) (unfinished : List ℕ) (count :
 
 -- The end of the input: the line of an incomplete event, and nothing is unfinished.
 pub record Ended (g : Got Plan) (σ : State) (unfinished out : List ℕ) (r : ℕ) (τ : State) (unfinished′ out′ : List ℕ) : Type 0 where
-  pub stands : standing τ unfinished′ ≡ ended g (standing σ unfinished)
+  pub state : τ ≡ ended g (standing σ unfinished) .state
+  pub none : unfinished′ ≡ unfinishedCells []
   pub written : Wrote (endLines g (standing σ unfinished)) out 0 out′ r
+
+-- Given what was read, a turn leaves one state, one unfinished event and the same lines; given which bytes were fed, any turns leave one that stands;
+-- and so does the end (proofs/Served.antt).
+
+abbrev pub TurnedOnce : Type 0
+TurnedOnce =
+    (g : Got Plan) (σ : State) (unfinished lines : List ℕ) (r s : Exchange) (τ υ : State) (unfinished′ others bytes′ lines′ other : List ℕ) → r .read ≡ s .read
+    → Turned g σ unfinished lines r τ unfinished′ bytes′ lines′ → Turned g σ unfinished lines s υ others bytes′ other
+    → (r ≡ s) × (τ ≡ υ) × (unfinished′ ≡ others) × (lines′ ≡ other)
+
+abbrev pub ServedOnce : Type 0
+ServedOnce =
+    (g : Got Plan) (σ : State) (unfinished bytes : List ℕ) (τ υ : State) (unfinished′ others : List ℕ)
+    → Served g σ unfinished bytes τ unfinished′ → Served g σ unfinished bytes υ others → standing τ unfinished′ ≡ standing υ others
+
+abbrev pub EndedOnce : Type 0
+EndedOnce =
+    (g : Got Plan) (σ : State) (unfinished out : List ℕ) (r s : ℕ) (τ υ : State) (unfinished′ others out′ other : List ℕ)
+    → Ended g σ unfinished out r τ unfinished′ out′ → Ended g σ unfinished out s υ others other → (r ≡ s) × (τ ≡ υ) × (unfinished′ ≡ others) × (out′ ≡ other)

@@ -142,7 +142,7 @@ fn turn(
     requires { ⌜ Serves (parse (now plan)) (stateIn (now cells) (now holds)) (now unfinished) ⌝ }
     requires { ⌜ length (now bytes) ≤ pieceMost ⌝ }
     requires { ⌜ linesMost ≤ length (now lines) ⌝ }
-    ensures { λ r. ⌜ Turned (parse (now (plan .entry))) (stateIn (now (cells .entry)) (now (holds .entry))) (now (unfinished .entry)) r (stateIn (now (cells .exit)) (now (holds .exit))) (now (unfinished .exit)) (now (bytes .exit)) (now (lines .exit)) ⌝ }
+    ensures { λ r. ⌜ Turned (parse (now (plan .entry))) (stateIn (now (cells .entry)) (now (holds .entry))) (now (unfinished .entry)) (now (lines .entry)) r (stateIn (now (cells .exit)) (now (holds .exit))) (now (unfinished .exit)) (now (bytes .exit)) (now (lines .exit)) ⌝ }
 {
     let read = next(bytes);
     let fed = signalbox_feed(plan, cells, holds, unfinished, &bytes[..read], lines);

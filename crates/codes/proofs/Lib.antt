@@ -1,1 +1,4 @@
 pub mod Coded
+pub mod Fits
+pub mod Decoded
+pub mod Results

@@ -1,3 +1,5 @@
 pub mod Cells
 pub mod Within
 pub mod Acting
+pub mod Results
+pub mod ResultsTests

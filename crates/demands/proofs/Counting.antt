@@ -86,7 +86,7 @@ balance p σ τ (Done (Left train u)) t f x = elim (same? x u) [
   | inr e ↦ omega (arith, once-other x u e, shown-same σ τ x (f .otherTrains x e))
 ]
 
-total-last : (f : Answer → ℕ) (h : List Answer) (a : Answer) → total f (h ++ (a ∷ [])) ≡ total f h + f a
+pub total-last : (f : Answer → ℕ) (h : List Answer) (a : Answer) → total f (h ++ (a ∷ [])) ≡ total f h + f a
 unfolding total
 total-last f [] a = omega arith
 total-last f (b ∷ h) a = let i = total-last f h a in omega arith

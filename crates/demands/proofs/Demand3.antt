@@ -37,6 +37,18 @@ history-first box p σ [] (suc n) = refl
 history-first box p σ (event ∷ events) zero = refl
 history-first box p σ (event ∷ events) (suc n) = ap (λ h. box .answer p σ event ∷ h) (history-first box p (box .next p σ event) events n)
 
+-- Events and then more: the answers and the state are those of the first and then, from where these lead, of the others.
+module _ (box : Box) (p : Plan) where
+  pub reached-append : (σ : State) (a b : List Event) → reached box p σ (a ++ b) ≡ reached box p (reached box p σ a) b
+  unfolding reached
+  reached-append σ [] b = refl
+  reached-append σ (e ∷ a) b = reached-append _ a b
+
+  pub history-append : (σ : State) (a b : List Event) → history box p σ (a ++ b) ≡ history box p σ a ++ history box p (reached box p σ a) b
+  unfolding history reached
+  history-append σ [] b = refl
+  history-append σ (e ∷ a) b = ap (λ h. box .answer p σ e ∷ h) (history-append (box .next p σ e) a b)
+
 -- What every answer and next state keep holds along a run.
 along : (box : Box) (p : Plan) (Kept : List Answer → State → Type 0)
     → ((h : List Answer) (σ : State) (event : Event) → Kept h σ → Kept (h ++ (box .answer p σ event ∷ [])) (box .next p σ event))
@@ -53,14 +65,15 @@ record Kept (p : Plan) (h : List Answer) (σ : State) : Type 0 where
   invariant : Invariant p σ
   safe : Safe p h σ
 
-fresh-safe : (p : Plan) → Safe p [] fresh
+fresh-safe : (p : Plan) → Readable p → Safe p [] fresh
 unfolding total All
-fresh-safe p = record {
+fresh-safe p reads = record {
   counted = λ u. omega (arith, shown-none fresh u (no-train u));
   shownMost = shown-most fresh;
   shownTrain = shown-train fresh;
   single = λ q r x h k. absurd (no-hold q x h);
   held = λ r x. (λ h. absurd (no-hold r x h), λ w. absurd (no-split (Done (Granted r)) (w .1 .earlier) (w .1 .later) (w .1 .splits)));
+  whole = fresh-formed p reads;
   unharmed = tt;
   formed = tt;
 }
@@ -79,6 +92,7 @@ module _ (p : Plan) (reads : Readable p) (sound : Sound p) where
     shownTrain = shown-train τ;
     single = single-after p σ τ a t f (s .single);
     held = λ r x. held-after p r x σ τ h a f (s .held r x);
+    whole = stays σ τ reads w a t f;
     unharmed = all-last _ h a (s .unharmed) (λ harm e. no-accident p reads sound σ inv w harm (subst (Told p σ) e t));
     formed = all-last _ h a (s .formed) (λ e. ill (subst (Told p σ) e t) w);
   }
@@ -94,7 +108,7 @@ module _ (p : Plan) (reads : Readable p) (sound : Sound p) where
   obeys-safe box obeys events = (along box p (Kept p) step [] fresh start events) .safe
     where
       start : Kept p [] fresh
-      start = record { formed = fresh-formed p reads; invariant = fresh-invariant p; safe = fresh-safe p }
+      start = record { formed = fresh-formed p reads; invariant = fresh-invariant p; safe = fresh-safe p reads }
 
       step : (h : List Answer) (σ : State) (event : Event) → Kept p h σ → Kept p (h ++ (box .answer p σ event ∷ [])) (box .next p σ event)
       step h σ event k =

@@ -27,7 +27,7 @@ unfolding All
 all-last ok [] a w k = (k, tt)
 all-last ok (b ∷ l) a w k = (w .0, all-last ok l a (w .1) k)
 
-all-but {ℓ} : {A : Type ℓ} (ok : A → Type 0) (l : List A) (a : A) → All ok (l ++ (a ∷ [])) → All ok l × ok a
+pub all-but {ℓ} : {A : Type ℓ} (ok : A → Type 0) (l : List A) (a : A) → All ok (l ++ (a ∷ [])) → All ok l × ok a
 unfolding All
 all-but ok [] a w = (tt, w .0)
 all-but ok (b ∷ l) a w = let (v, k) = all-but ok l a (w .1) in ((w .0, v), k)

@@ -2,35 +2,41 @@
 -- second one must be called a collision.
 use mathlib.Core.Path.{_≡_, refl, sym, ap, _∙_, subst}
 use mathlib.Core.Logic.{_≢_, inl, inr}
-use mathlib.Core.List.{[], _∷_}
+use mathlib.Core.List.{List, [], _∷_, _++_}
 use Prim.Native.Nat.{ℕ, _+_, _<_, _≤_}
 use native.Mathlib.Omega.{arith}
-use native.Mathlib.Nat.{not-suc-le-zero}
+use native.Mathlib.Nat.{not-suc-le-zero, zero-add}
 use lib.ListN.{length}
-use Rattle.laws.specs.Tests.{never, same?}
+use Rattle.laws.specs.declared.Found.the-variants.{At}
+use Rattle.laws.specs.Tests.{never, same?, below?}
 use Rattle.laws.specs.Answers.{None, Gives}
+use Rattle.laws.specs.Lists.{All}
 use Rattle.plan.specs.Records.{Plan, entryOf}
+use Rattle.plan.specs.File.{Readable}
+use Rattle.rules.specs.Verdict.{Sound}
 use Rattle.state.specs.declared.State.{State}
 use Rattle.state.specs.State.{noTrain, trainAt, HasTrain, WellFormed, fresh}
 use Rattle.events.specs.declared.Event.{Event}
 use Rattle.events.specs.declared.Event.the-variants.{Enter, Unknown}
-use Rattle.events.specs.declared.Refusal.the-variants.{BadEvent}
+use Rattle.events.specs.declared.Refusal.the-variants.{IllFormed, BadEvent}
 use Rattle.events.specs.declared.Harm.{Harm}
 use Rattle.events.specs.declared.Harm.the-variants.{Collision}
 use Rattle.events.specs.declared.Answer.{Answer}
-use Rattle.events.specs.declared.Deed.the-variants.{Entered, Moved, Left}
+use Rattle.events.specs.declared.Deed.the-variants.{Entered}
 use Rattle.events.specs.declared.Answer.the-variants.{Refused, Accident, Done}
 use Rattle.events.specs.Answers.{deedComes, deedLeaves}
 use Rattle.events.specs.Meaning.{InPlan, Busy, enterTable, eventTable, tableOf, Given, AfterEntry, Follows}
 use Rattle.events.proofs.Told.{Told}
 use Rattle.events.proofs.Given.{one-given as one-given-in, told}
 use Rattle.events.proofs.Kept.{stays, fresh-formed, no-train}
-use Rattle.demands.specs.Demands.{Box, Demand2, history, reached, onceAt, comes, goes, total, shown, Demand3}
-use Rattle.demands.specs.Impostors.{Stock, hasty, hushed, hush, Impostors}
+use Rattle.demands.specs.Demands.{Box, Demand2, history, reached, onceAt, comes, goes, total, shown, Safe, Demand3}
+use Rattle.demands.specs.Impostors.{hasty, DifferAt, hushed, hush, AllEnter, AllLeave, AllMove, InventsAt, Impostors}
 use Rattle.demands.proofs.Invariant.{Invariant}
 use Rattle.demands.proofs.Accidents.{no-accident}
-use Rattle.demands.proofs.Counting.{once-same, once-other}
-use Rattle.demands.proofs.Demand3.{obeys-safe}
+use Rattle.demands.proofs.Counting.{once-same, once-other, total-last}
+use Rattle.demands.proofs.Once.{no-choice}
+use Rattle.demands.proofs.History.{all-but}
+use Rattle.demands.proofs.Demand3.{obeys-safe, reached-append, history-append}
 use Rattle.demands.proofs.Verdicts.{judged-once, read-once}
 use Rattle.demands.proofs.Small.{small, bare-reads, sound-reads, small-sound}
 
@@ -113,54 +119,135 @@ hush-safe box d p reads sound = obeys-safe p reads sound (hush box) obeys
         let t = told p reads σ (d .answers p reads σ event) in
         rw (hushed-same (box .answer p σ event) (λ harm e. no-accident p reads sound σ inv w harm (subst (Told p σ) e t))) (t, d .states p reads σ event)
 
+-- A box that meets demand 2 has let train 2 in, and is asked to let in train 1 behind it.
+module _ (box : Box) (d : Demand2 box) where
+  abbrev taken-by-two : State
+  taken-by-two = box .next bare fresh (Enter 0 2)
+
+  after-two : AfterEntry fresh taken-by-two 2 track
+  after-two = let-in box d 2 two
+
+  two-formed : WellFormed bare taken-by-two
+  two-formed = stays fresh _ bare-reads (fresh-formed bare bare-reads) (box .answer bare fresh (Enter 0 2)) (told bare bare-reads fresh (d .answers bare bare-reads fresh (Enter 0 2))) (d .states bare bare-reads fresh (Enter 0 2))
+
+  no-one : InPlan bare taken-by-two 1 → ⊥
+  no-one (u, e) = elim (same? u track) [
+    | inl q ↦ (let z : _≡_ {A = ℕ} 2 1 = sym (after-two .stands) ∙ sym (ap (trainAt taken-by-two) q) ∙ e in omega arith)
+    | inr q ↦ one (sym e ∙ after-two .otherTrains u q ∙ no-train u)
+  ]
+
+  collides : Given bare taken-by-two (Enter 0 1) (Accident (Collision track))
+  collides = must-collide taken-by-two two-formed 1 one no-one (λ z. two (sym (after-two .stands) ∙ z))
+
 hush-fails : (box : Box) → Demand2 box → Demand2 (hush box) → ⊥
-hush-fails box d h = hushed-calm (box .answer bare σ (Enter 0 1)) (Collision track) (one-given (h .answers bare bare-reads σ (Enter 0 1)) (must-collide σ formed 1 one new taken))
+hush-fails box d h =
+    hushed-calm (box .answer bare (taken-by-two box d) (Enter 0 1)) (Collision track)
+    (one-given (h .answers bare bare-reads (taken-by-two box d) (Enter 0 1)) (collides box d))
+
+-- Two boxes that meet demand 2 differ nowhere.
+never-apart : (box other : Box) → Demand2 box → (p : Plan) → Readable p → (σ : State) (event : Event) → DifferAt p σ event box other → Demand2 other → ⊥
+never-apart box other d p reads σ event n o = let (a, s) = no-choice box other d o p reads σ event in elim n [ inl z ↦ z a | inr z ↦ z s ]
+
+-- Invented comings and goings, on the sound plan: it has two tracks, and each shows no train or one.
+
+abbrev plan : Plan
+plan = small (0 ∷ [])
+
+-- three trains have come and none has gone: two of them to one track, or one to a track that there isn't
+crowded : (u v w : ℕ) (shows : ℕ → ℕ) → ((x : ℕ) → onceAt x (At u) + (onceAt x (At v) + (onceAt x (At w) + 0)) ≡ shows x) → ((x : ℕ) → shows x ≤ 1) → ((x : ℕ) → shows x ≡ 1 → x < 2) → ⊥
+crowded u v w shows sum most there = elim (same? u v) [
+  | inl e ↦ absurd (omega (arith, sum u, most u, itself u, once-same u v e))
+  | inr m ↦ (elim (same? u w) [
+    | inl e ↦ absurd (omega (arith, sum u, most u, itself u, once-same u w e))
+    | inr n ↦ (elim (same? v w) [
+      | inl e ↦ absurd (omega (arith, sum v, most v, itself v, once-same v w e))
+      | inr k ↦ absurd (omega (arith, there u (omega (arith, sum u, most u, itself u)), there v (omega (arith, sum v, most v, itself v)), there w (omega (arith, sum w, most w, itself w)), m, n, k))
+    ])
+  ])
+]
   where
-    σ : State
-    σ = box .next bare fresh (Enter 0 2)
+    itself : (x : ℕ) → onceAt x (At x) ≡ 1
+    itself x = once-same x x refl
 
-    after : AfterEntry fresh (box .next bare fresh (Enter 0 2)) 2 track
-    after = let-in box d 2 two
+on-a-track : (σ : State) → WellFormed plan σ → (x : ℕ) → HasTrain σ x → x < 2
+unfolding small
+on-a-track σ formed x h = elim (below? x 2) [ inl l ↦ l | inr l ↦ absurd (h (formed .trainsEnd x l)) ]
 
-    formed : WellFormed bare (box .next bare fresh (Enter 0 2))
-    formed = stays fresh _ bare-reads (fresh-formed bare bare-reads) (box .answer bare fresh (Enter 0 2)) (told bare bare-reads fresh (d .answers bare bare-reads fresh (Enter 0 2))) (d .states bare bare-reads fresh (Enter 0 2))
-
-    taken : HasTrain (box .next bare fresh (Enter 0 2)) track
-    taken z = two (sym (after .stands) ∙ z)
-
-    new : InPlan bare (box .next bare fresh (Enter 0 2)) 1 → ⊥
-    new (u, e) = elim (same? u track) [
-      | inl q ↦ (let z : _≡_ {A = ℕ} 2 1 = sym (after .stands) ∙ sym (ap (trainAt (box .next bare fresh (Enter 0 2))) q) ∙ e in omega arith)
-      | inr q ↦ one (sym e ∙ after .otherTrains u q ∙ no-train u)
-    ]
-
--- Invented comings and goings: after two events with one stock answer on the sound plan, what came and what went differ by no or one train.
-module _ (box : Box) (d : Demand3 box) (answer : Answer) (stock : Stock answer box) (u : ℕ) where
-  twice : (n : ℕ) × (n ≤ 1) × (comes u answer + comes u answer ≡ goes u answer + goes u answer + n)
-  unfolding history total
-  twice =
-      let plan : Plan = small (0 ∷ []) in
+module _ (box : Box) (d : Demand3 box) where
+  comings-fail : AllEnter box → ⊥
+  unfolding history reached total deedComes deedLeaves onceAt
+  comings-fail all =
       let σ : State = box .next plan fresh Unknown in
       let τ : State = box .next plan σ Unknown in
-      let safe = d plan sound-reads small-sound (Unknown ∷ Unknown ∷ []) in
-      let a = stock plan fresh Unknown in
-      let b = stock plan σ Unknown in
-      (shown (reached box plan fresh (Unknown ∷ Unknown ∷ [])) u, safe .shownMost u, omega (arith, safe .counted u, ap (comes u) a, ap (comes u) b, ap (goes u) a, ap (goes u) b))
+      let ω : State = box .next plan τ Unknown in
+      let safe = d plan sound-reads small-sound (Unknown ∷ Unknown ∷ Unknown ∷ []) in
+      let (t, u, e) = all plan fresh Unknown in
+      let (s, v, f) = all plan σ Unknown in
+      let (r, w, g) = all plan τ Unknown in
+      crowded u v w (shown ω)
+      (λ x. rw (e, f, g) at (safe .counted x) ∙ zero-add (shown ω x))
+      (safe .shownMost)
+      (λ x h. on-a-track ω (safe .whole) x (safe .shownTrain x .0 h))
+
+  goings-fail : AllLeave box → ⊥
+  unfolding history reached total deedComes deedLeaves onceAt
+  goings-fail all =
+      let (t, u, e) = all plan fresh Unknown in
+      absurd (omega (arith, rw e at (d plan sound-reads small-sound (Unknown ∷ []) .counted u), once-same u u refl))
+
+  moves-fail : AllMove box → ⊥
+  unfolding history reached total deedComes deedLeaves
+  moves-fail all =
+      let (t, u, v, n, e) = all plan fresh Unknown in
+      absurd (omega (arith, rw e at (d plan sound-reads small-sound (Unknown ∷ []) .counted u), once-same u u refl, once-other u v n))
+
+  -- what came and went up to an event, and with it
+  invented-fails : (p : Plan) → Readable p → Sound p → (events : List Event) (event : Event) (u : ℕ) → InventsAt p (reached box p fresh events) event u box → ⊥
+  unfolding history reached
+  invented-fails p reads sound events event u n =
+      let σ : State = reached box p fresh events in
+      let before = d p reads sound events .counted u in
+      let after : total (comes u) (history box p fresh events ++ (box .answer p σ event ∷ [])) ≡ total (goes u) (history box p fresh events ++ (box .answer p σ event ∷ [])) + shown (box .next p σ event) u
+      = rw (history-append box p fresh events (event ∷ []), reached-append box p fresh events (event ∷ [])) at (d p reads sound (events ++ (event ∷ [])) .counted u) in
+      n (omega (arith, before, after, total-last (comes u) (history box p fresh events) (box .answer p σ event), total-last (goes u) (history box p fresh events) (box .answer p σ event)))
+
+  -- the answer to an event after others is the last of their history
+  last-answer : (p : Plan) → Readable p → Sound p → (events : List Event) (event : Event) (ok : Answer → Type 0) → ((h : List Answer) (σ : State) → Safe p h σ → All ok h) → ok (box .answer p (reached box p fresh events) event)
+  unfolding history
+  last-answer p reads sound events event ok each =
+      all-but ok (history box p fresh events) _
+      (rw (history-append box p fresh events (event ∷ [])) at (each (history box p fresh (events ++ (event ∷ []))) _ (d p reads sound (events ++ (event ∷ [])))))
+      .1
 
 pub impostors : Impostors
-unfolding reached onceAt deedComes deedLeaves
+unfolding reached
 impostors = record {
   refuserFails = λ box r d. let (refusal, e) = r bare fresh (Enter 0 1) in let i = lets-in box d 1 one in never (cc);
   stockFails = λ answer box s d.
       let a = s bare fresh (Enter 0 1) in let b = s bare fresh Unknown in let i = lets-in box d 1 one in let j = refuses box d in never (cc);
   idleFails = λ box i d. alters box d 1 one (i bare fresh (Enter 0 1));
-  hastyFails = λ box d h. alters box d 1 one
-      (ap (λ σ. box .next bare σ (Enter 0 1)) (sym (waits box d)) ∙ waits (hasty (Enter 0 1 ∷ []) box) h);
+  eventsFail = λ box s d. let e = s bare fresh (Enter 0 1) Unknown in let i = lets-in box d 1 one in let j = refuses box d in never (cc);
+  statesFail = λ box s d.
+      let e = s bare fresh (taken-by-two box d) (Enter 0 1) in let i = lets-in box d 1 one in
+      let j = one-given (d .answers bare bare-reads (taken-by-two box d) (Enter 0 1)) (collides box d) in never (cc);
+  hastyFails = λ box d rest p reads σ event n h. never-apart box (hasty rest box) d p reads σ event n h;
+  hastyEntry = λ box d h. alters box d 1 one
+      (ap (λ σ. box .next bare σ (Enter 0 1)) (sym (waits box d)) ∙ waits (hasty (λ p σ event. Enter 0 1 ∷ []) box) h);
+  strayFails = never-apart;
   hushSafe = hush-safe;
   hushFails = hush-fails;
+  silentFails = λ box calm d.
+      calm bare (taken-by-two box d) (Enter 0 1) (Collision track) (one-given (d .answers bare bare-reads (taken-by-two box d) (Enter 0 1)) (collides box d));
   rowsFail = judged-once;
   offsetsFail = read-once;
-  comingsFail = λ train u box s d. let (n, h, e) = twice box d (Done (Entered train u)) s u in let o = once-same u u refl in omega arith;
-  goingsFail = λ train u box s d. let (n, h, e) = twice box d (Done (Left train u)) s u in let o = once-same u u refl in omega arith;
-  movesFail = λ train u v box a s d. let (n, h, e) = twice box d (Done (Moved train u v)) s u in let o = once-same u u refl in let z = once-other u v a in omega arith;
+  comingsFail = λ box all d. comings-fail box d all;
+  goingsFail = λ box all d. goings-fail box d all;
+  movesFail = λ box all d. moves-fail box d all;
+  inventedFails = λ box p reads sound events event u n d. invented-fails box d p reads sound events event u n;
+  harmFails = λ box p reads sound events event harm e d. last-answer box d p reads sound events event (λ a. (other : Harm) → a ≢ Accident other) (λ h σ safe. safe .unharmed) harm e;
+  illFails = λ box p reads sound events event e d. last-answer box d p reads sound events event (λ a. a ≢ Refused IllFormed) (λ h σ safe. safe .formed) e;
+  sharedFails = λ box p reads sound events k r x n h g d. n (d p reads sound events .single k r x h g);
+  holdsFail = λ box p reads sound events r x w d.
+      let held = d p reads sound events .held r x in elim w [ inl (h, n) ↦ n (held .0 h) | inr (s, n) ↦ n (held .1 s) ];
+  aloofFails = λ box p reads r σ τ w v same n agrees. n (agrees p reads r σ τ w v same);
 }

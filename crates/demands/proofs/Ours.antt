@@ -12,6 +12,10 @@ use Rattle.events.proofs.Given.{given}
 use Rattle.events.proofs.Kept.{next-follows}
 use Rattle.demands.specs.Demands.{Demand2, Judges}
 use Rattle.demands.specs.Ours.{ours, Shown}
+use Rattle.forms.proofs.Meaning.{one-form}
+use Rattle.forms.proofs.Longest.{longest}
+use Rattle.forms.proofs.Rows.{track-row, release-row, route-row, entry-row}
+use Rattle.demands.proofs.Verdicts.{parse-reads}
 use Rattle.demands.proofs.Demand3.{demand2→demand3}
 use Rattle.demands.proofs.Agreement.{demand2→agreement}
 
@@ -30,6 +34,13 @@ pub shown : Shown
 shown = record {
   exact = exact;
   judged = judged;
+  read = parse-reads;
+  one-form = one-form;
+  longest = longest;
+  track-rows = track-row;
+  release-rows = release-row;
+  route-rows = route-row;
+  entry-rows = entry-row;
   safe = demand2→demand3 ours exact;
   file-safe = λ file bytes {p} e v. demand2→demand3 ours exact p (reads-readable file e .1) (accepted-exactly p .0 v) (eventsOf bytes);
   agrees = demand2→agreement ours exact;

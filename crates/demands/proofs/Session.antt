@@ -15,7 +15,6 @@ use Rattle.state.specs.State.{fresh}
 use Rattle.events.specs.declared.Event.{Event}
 use Rattle.events.specs.declared.Answer.{Answer}
 use Rattle.events.specs.Events.{eventsOf, wholeEvents, leftOver}
-use Rattle.events.specs.After.{nextState}
 use Rattle.events.proofs.Pieces.{whole-append, left-append, events-append}
 use Rattle.lines.specs.Lines.{answerLine}
 use Rattle.demands.specs.Demands.{history, reached, Safe}
@@ -23,34 +22,29 @@ use Rattle.demands.specs.Ours.{ours}
 use Rattle.demands.specs.Session.{answersOf, stateAfter, linesOf, firstLine, printed, Between, between, begun, whole, fed, fedLines, ended, endLines, afterPieces, pieceLines}
 use Rattle.demands.specs.Session.{FromFresh, Carries, Sessions}
 use Rattle.demands.proofs.Ours.{shown}
+use Rattle.demands.proofs.Demand3.{reached-append, history-append}
 
 -- Events after events.
 
-module _ (p : Plan) where
-  pub reached-append : (σ : State) (a b : List Event) → reached ours p σ (a ++ b) ≡ reached ours p (reached ours p σ a) b
-  unfolding reached
-  reached-append σ [] b = refl
-  reached-append σ (e ∷ a) b = reached-append _ a b
-
-  pub history-append : (σ : State) (a b : List Event) → history ours p σ (a ++ b) ≡ history ours p σ a ++ history ours p (reached ours p σ a) b
-  unfolding history reached
-  history-append σ [] b = refl
-  history-append σ (e ∷ a) b = rw (history-append (nextState p σ e) a b)
-
-joined-append : (f : Answer → List ℕ) (x y : List Answer) → joined f (x ++ y) ≡ joined f x ++ joined f y
+pub joined-append : (f : Answer → List ℕ) (x y : List Answer) → joined f (x ++ y) ≡ joined f x ++ joined f y
 unfolding joined
 joined-append f [] y = refl
 joined-append f (a ∷ x) y = rw (joined-append f x y) (sym (append-assoc (f a) (joined f x) (joined f y)))
 
+pub none-after : (g : Got Plan) (σ : State) → stateAfter g σ [] ≡ σ
+unfolding stateAfter reached
+none-after (form f) σ = refl
+none-after (got p at rest) σ = refl
+
 state-then : (g : Got Plan) (σ : State) (a b : List Event) → stateAfter g σ (a ++ b) ≡ stateAfter g (stateAfter g σ a) b
 unfolding stateAfter
 state-then (form f) σ a b = refl
-state-then (got p at rest) σ a b = reached-append p σ a b
+state-then (got p at rest) σ a b = reached-append ours p σ a b
 
 lines-then : (g : Got Plan) (σ : State) (a b : List Event) → linesOf g σ (a ++ b) ≡ linesOf g σ a ++ linesOf g (stateAfter g σ a) b
 unfolding linesOf answersOf stateAfter joined
 lines-then (form f) σ a b = refl
-lines-then (got p at rest) σ a b = ap (joined answerLine) (history-append p σ a b) ∙ joined-append answerLine (history ours p σ a) _
+lines-then (got p at rest) σ a b = ap (joined answerLine) (history-append ours p σ a b) ∙ joined-append answerLine (history ours p σ a) _
 
 -- Bytes after bytes.
 
@@ -98,8 +92,8 @@ from-start p = record { events = []; answered = refl; state = refl }
 pub carried : (p : Plan) (at : ℕ) (rest : List ℕ) → Readable p → (σ τ : State) (events : List Event) → τ ≡ reached ours p σ events → Carries (got p at rest) σ events τ
 unfolding Carries
 carried p at rest R σ τ events z v before w =
-    let d : reached ours p fresh (w .events ++ events) ≡ τ = reached-append p fresh (w .events) events ∙ rw (w .state) (sym z) in
-    let h : history ours p fresh (w .events ++ events) ≡ before ++ history ours p σ events = history-append p fresh (w .events) events ∙ rw (w .answered, w .state) in
+    let d : reached ours p fresh (w .events ++ events) ≡ τ = reached-append ours p fresh (w .events) events ∙ rw (w .state) (sym z) in
+    let h : history ours p fresh (w .events ++ events) ≡ before ++ history ours p σ events = history-append ours p fresh (w .events) events ∙ rw (w .answered, w .state) in
     (record { events = w .events ++ events; answered = h; state = d }, rw (← h, ← d) (shown .safe p R (accepted-exactly p .0 v) (w .events ++ events)))
 
 pub goes-on : (file : List ℕ) (σ : State) (events : List Event) → Carries (parse file) σ events (stateAfter (parse file) σ events)

@@ -7,12 +7,14 @@ use Prim.Native.Nat.{ℕ}
 use Rattle.plan.specs.Records.{Plan}
 use Rattle.plan.specs.File.{Readable}
 use Rattle.reading.specs.declared.Form.{Form}
-use Rattle.reading.specs.Reading.{Got, form, got, formNumber, formOffset}
+use Rattle.reading.specs.Reading.{Got, form, got, formNumber, formOffset, parse}
+use Rattle.reading.proofs.Meaning.{readable-reads}
+use Rattle.forms.proofs.Meaning.{form-exactly, parse-only}
 use Rattle.rules.specs.declared.Verdict.{Verdict}
 use Rattle.rules.specs.declared.Verdict.the-variants.{Accepted}
 use Rattle.rules.specs.Verdict.{ruleNumber, ruleRow}
 use Rattle.rules.proofs.Verdicts.{broken-once}
-use Rattle.demands.specs.Demands.{Reads, Judges}
+use Rattle.demands.specs.Demands.{Reads, OneReading, Judges}
 
 pub judged-once : (verdict other : Plan → Verdict) (p : Plan) → Readable p → Judges verdict
     → (ruleNumber (other p) ≢ ruleNumber (verdict p)) ⊎ (ruleRow (other p) ≢ ruleRow (verdict p)) → Judges other → ⊥
@@ -23,6 +25,17 @@ judged-once verdict other p reads d n o = differ (broken-once p _ _ _ _ (o .brok
 
     neither : verdict p ≢ Accepted
     neither e = let z = (o .accepted p reads) .1 ((d .accepted p reads) .0 e) ∙ sym e in differ (ap ruleNumber z, ap ruleRow z)
+
+-- Whatever meets demand 2 of reading is `parse`, which does.
+
+pub parse-reads : Reads parse
+parse-reads = record { plans = readable-reads; forms = λ file f. form-exactly file f .1 }
+
+reads-as-parse : (read : List ℕ → Got Plan) → Reads read → (file : List ℕ) → read file ≡ parse file
+reads-as-parse read d = parse-only read (d .plans) (d .forms)
+
+pub one-reading : OneReading
+one-reading read other d o file = reads-as-parse read d file ∙ sym (reads-as-parse other o file)
 
 abbrev numberOf : Got Plan → ℕ
 numberOf (form f) = formNumber f
@@ -37,4 +50,4 @@ pub read-once : (read other : List ℕ → Got Plan) (file : List ℕ) {f g : Fo
 read-once read other file {f} {g} d h k n o = elim n [ inl z ↦ z (same numberOf) | inr z ↦ z (same offsetOf) ]
   where
     same : (part : Got Plan → ℕ) → part (form g) ≡ part (form f)
-    same part = sym (ap part k) ∙ ap part (o file) ∙ sym (ap part (d file)) ∙ ap part h
+    same part = ap part (sym k ∙ one-reading other read o d file ∙ h)

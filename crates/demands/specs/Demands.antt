@@ -1,10 +1,13 @@
--- The demands on a box, as document 01 makes them, stated of any box: what it answers and its next state, for a plan, a state and an event. Each is
+-- The demands on a box (docs/DEMANDS.md has them beside the sentences of document 01), stated of any box: what it answers and its next state, for a plan, a state and an event. Each is
 -- followed by the theorem, in proofs/, that speaks of it. The page rests on these definitions, and on nothing else:
 --   plan/specs/Limits.antt       the numbers of document 01: how many of each a plan may have
---   plan/specs/Records.antt      Plan; plan/specs/Kinds.antt: Plain, Exit, Forks, Legged, isPoint, out, leg, uses, what a track is; plan/specs/File.antt: Readable,
---                                the plans that a file can hold
+--   plan/specs/Records.antt      Plan; plan/specs/Kinds.antt: Plain, Exit, Forks, Legged, isPoint, out, leg, uses, what a track is
 --   plan/specs/Layout.antt       Leads, Home, StandsAt; plan/specs/Routes.antt: trackAt, pointsOf, Listed, Released, Releases, what a route says
---   reading/specs/Reading.antt   parse, what a file holds: a plan, or the form of the first bad byte (reading/proofs/Meaning.antt says what that means)
+--   plan/specs/File.antt         fileOf, the file of a plan, and Readable, the plans that a file can hold
+--   forms/specs/Forms.antt       planFile, the plan file byte by byte: what the next byte must be, by those before it; Formed, the table of forms (1 to 5), each as its
+--                                sentence of the first byte that is not right; forms/specs/Rows.antt: TrackRow and its like, which byte of a row is which
+--   forms/specs/Shown.antt       OneForm, exactly one form for a file that is no plan's; Longest, the largest file
+--   reading/specs/Reading.antt   Got, what a reader gives: a plan or a form (reading/src/lib.rt); formNumber and formOffset, its number and offset
 --   rules/specs/Sentences.antt   the twelve plan rules, each as its sentence of a row
 --   rules/specs/Verdict.antt     rules, their list; Sound, each sentence is true of every row; Breaks, the lowest broken rule and row; ruleNumber and ruleRow, the
 --                                document's numbers of a Verdict (rules/src/lib.rt)
@@ -18,20 +21,26 @@
 -- Demand 1, always an answer, needs no definition here: the functions of the public face (signalbox/src/lib.rt) ask nothing of their callers, and
 -- every function is proved to end. What is printed for any input, however it is cut, and demand 3 from call to call stand in Session.antt.
 -- Signs: `(x : ℕ) → A` for every number x, A; `(x : ℕ) × A` there is a number x with A; `A → B` if A then B; `A × B` both; `A ⊎ B` one of the two;
--- `A ↔ B` each gives the other; `A → ⊥` not A; `x ≡ y` equal, `x ≢ y` not.
+-- `A ↔ B` each gives the other; `A → ⊥` not A, `⊥` what is never so, `Unit` what is always so; `x ≡ y` equal, `x ≢ y` not; `λ x. e` e, given x; `[]` the empty
+-- list, `x ∷ l` x before the list l, `k ++ l` one after the other; `getD l i d` the i-th of l, d where there is none; `cond test yes no`; `suc n` n + 1; `.0`, `.1`
+-- the first and second of a pair. A `record` holds all of its lines, a `data` one of its cases; what stands in `{ }` can be read off from the rest; `abbrev` and
+-- `unfoldable` are for the prover. These, and what the kit has of numbers and lists, are all that is used beside the definitions above.
 use mathlib.Core.Path.{_≡_}
 use mathlib.Core.Bool.{cond}
 use mathlib.Core.Logic.{_≢_, _↔_}
 use mathlib.Core.List.{List, [], _∷_, _++_}
 use Prim.Native.Nat.{ℕ, _+_, _≤_}
 use lib.Dec.{eqb}
+use lib.ListN.{length}
 use Rattle.laws.specs.declared.Found.{Found}
 use Rattle.laws.specs.declared.Found.the-variants.{At, Nothing}
 use Rattle.laws.specs.Lists.{All}
 use Rattle.plan.specs.Records.{Plan}
 use Rattle.plan.specs.Routes.{Listed, Releases}
-use Rattle.plan.specs.File.{Readable}
-use Rattle.reading.specs.Reading.{Got, parse}
+use Rattle.plan.specs.File.{fileOf, Readable}
+use Rattle.reading.specs.declared.Form.{Form}
+use Rattle.reading.specs.Reading.{Got, form, got, formNumber, formOffset}
+use Rattle.forms.specs.Forms.{Formed, planFile}
 use Rattle.rules.specs.declared.Verdict.{Verdict}
 use Rattle.rules.specs.declared.Verdict.the-variants.{Accepted}
 use Rattle.rules.specs.Verdict.{Sound, Breaks, ruleNumber, ruleRow}
@@ -70,9 +79,18 @@ NoChoice =
     (box other : Box) → Demand2 box → Demand2 other → (p : Plan) → Readable p → (σ : State) (event : Event)
     → (box .answer p σ event ≡ other .answer p σ event) × SameState (box .next p σ event) (other .next p σ event)
 
--- Demand 2 of reading a file, any bytes whatever: the plan that it holds, or the form number and offset of its first bad byte.
-abbrev pub Reads : (List ℕ → Got Plan) → Type 0
-Reads read = (file : List ℕ) → read file ≡ parse file
+-- Demand 2 of reading a file, any bytes whatever: the plan whose file it is, or the form of its first byte that is not right. Each form has its
+-- sentence (forms/specs/Forms.antt): 1, every byte is right and more is due; 2, a count is due, and this one is beyond its limits; 3, a number is due,
+-- and this one does not exist; 4, it exists, and is not above its forerunner; 5, nothing more is due. Exactly one applies to a file that is no
+-- plan's (`OneForm`).
+pub record Reads (read : List ℕ → Got Plan) : Type 0 where
+  -- the plan, the offset after it, and no byte left
+  pub plans : (p : Plan) → Readable p → read (fileOf p) ≡ got p (length (fileOf p)) []
+  pub forms : (file : List ℕ) (f : Form) → Formed planFile file (formNumber f) (formOffset f) → read file ≡ form f
+
+-- No choice is left here either (proofs/Verdicts.antt, one-reading).
+abbrev pub OneReading : Type 0
+OneReading = (read other : List ℕ → Got Plan) → Reads read → Reads other → (file : List ℕ) → read file ≡ other file
 
 -- Demand 2 of the verdict on a plan: accepted exactly when the twelve sentences hold, else the lowest broken rule with its lowest row.
 pub record Judges (verdict : Plan → Verdict) : Type 0 where
@@ -124,19 +142,22 @@ pub record SinceGrant (p : Plan) (r x : ℕ) (answers : List Answer) : Type 0 wh
 
 -- Demand 3, of the answers so far and the state.
 pub record Safe (p : Plan) (answers : List Answer) (σ : State) : Type 0 where
-  -- for each track, what came is what went and what is shown: no train or one, and one exactly if the state has a train there
+  -- for each track, what came is what went and what is shown: no train or one, and one exactly if the state has a train there (this is what `shown`
+  -- is, and with it `counted` says that what came less what went is 0 or 1)
   pub counted : (u : ℕ) → total (comes u) answers ≡ total (goes u) answers + shown σ u
   pub shownMost : (u : ℕ) → shown σ u ≤ 1
   pub shownTrain : (u : ℕ) → (shown σ u ≡ 1) ↔ HasTrain σ u
   -- each point is held by at most one route, and exactly as the answers say
-  pub single : (q r x : ℕ) → Holds σ q x → Holds σ r x → q ≡ r
+  pub single : (k r x : ℕ) → Holds σ k x → Holds σ r x → k ≡ r
   pub held : (r x : ℕ) → Holds σ r x ↔ (Listed p r x × SinceGrant p r x answers)
+  -- the state is well formed: no train stands on two tracks, or where there is no track
+  pub whole : WellFormed p σ
   -- no 40, 41 or 42 was answered (an Accident is one of these), and no 10 (IllFormed): events/specs/Answers.antt has the numbers
   pub unharmed : All (λ answer. (harm : Harm) → answer ≢ Accident harm) answers
   pub formed : All (λ answer. answer ≢ Refused IllFormed) answers
 
--- On every plan that reads and is accepted, from the fresh state, after any events. A list of events after each of its events is again such a list,
--- and its history the beginning of the whole one (proofs/Demand3.antt, history-first); the events of any bytes are such a list too.
+-- On every plan that reads and is accepted, from the fresh state, after any events. So after each of the events too: the first
+-- of them are a list of events, and their history is the beginning of the whole one (proofs/Demand3.antt, history-first).
 -- Every box that meets demand 2 meets it (proofs/Demand3.antt, demand2→demand3).
 abbrev pub Demand3 : Box → Type 0
 Demand3 box = (p : Plan) → Readable p → Sound p → (events : List Event) → Safe p (history box p fresh events) (reached box p fresh events)

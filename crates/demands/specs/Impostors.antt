@@ -1,23 +1,28 @@
--- The impostors of document 01, "No loose ends": boxes that would pass for one, and the demand that each of them fails.
+-- The impostors of document 01, "No loose ends": boxes that would pass for one, and the demand that each of them fails. Ours, beside the document's: boxes
+-- deaf to events or states, and one that is right but in one place.
 use mathlib.Core.Path.{_≡_}
 use mathlib.Core.Logic.{_≢_, _⊎_}
 use mathlib.Core.List.{List, [], _∷_}
-use Prim.Native.Nat.{ℕ}
+use Prim.Native.Nat.{ℕ, _+_}
 use Rattle.plan.specs.Records.{Plan}
+use Rattle.plan.specs.Routes.{Listed}
 use Rattle.plan.specs.File.{Readable}
 use Rattle.reading.specs.declared.Form.{Form}
 use Rattle.reading.specs.Reading.{Got, form, formNumber, formOffset}
 use Rattle.rules.specs.declared.Verdict.{Verdict}
-use Rattle.rules.specs.Verdict.{ruleNumber, ruleRow}
+use Rattle.rules.specs.Verdict.{Sound, ruleNumber, ruleRow}
 use Rattle.state.specs.declared.State.{State}
+use Rattle.state.specs.State.{Holds, WellFormed, fresh}
 use Rattle.events.specs.declared.Event.{Event}
-use Rattle.events.specs.declared.Event.the-variants.{Enter}
+use Rattle.events.specs.declared.Event.the-variants.{Request, Enter}
 use Rattle.events.specs.declared.Refusal.{Refusal}
-use Rattle.events.specs.declared.Refusal.the-variants.{BadEvent}
+use Rattle.events.specs.declared.Refusal.the-variants.{IllFormed, BadEvent}
+use Rattle.events.specs.declared.Harm.{Harm}
 use Rattle.events.specs.declared.Deed.the-variants.{Entered, Moved, Left}
 use Rattle.events.specs.declared.Answer.{Answer}
 use Rattle.events.specs.declared.Answer.the-variants.{Refused, Accident, Done}
-use Rattle.demands.specs.Demands.{Box, Demand2, Reads, Judges, reached, Demand3}
+use Rattle.demands.specs.Demands.{Box, Demand2, SameState, Reads, Judges, history, reached, comes, goes, shown, SinceGrant, Demand3, Agreement}
+use Rattle.events.specs.Meaning.{Alike}
 
 -- it refuses everything, whatever the reason
 abbrev pub RefusesAll : Box → Type 0
@@ -31,9 +36,22 @@ Stock answer box = (p : Plan) (σ : State) (event : Event) → box .answer p σ 
 abbrev pub Idle : Box → Type 0
 Idle box = (p : Plan) (σ : State) (event : Event) → box .next p σ event ≡ σ
 
--- it plays the whole list at the first event. A box knows one event at a time, so the rest of the list is given to it beforehand.
-abbrev pub hasty : List Event → Box → Box
-hasty rest box = record { answer = box .answer; next = λ p σ event. reached box p (box .next p σ event) rest }
+-- its answers don't go by the event, or not by the state
+abbrev pub DeafToEvents : Box → Type 0
+DeafToEvents box = (p : Plan) (σ : State) (event other : Event) → box .answer p σ event ≡ box .answer p σ other
+
+abbrev pub DeafToStates : Box → Type 0
+DeafToStates box = (p : Plan) (σ τ : State) (event : Event) → box .answer p σ event ≡ box .answer p τ event
+
+-- it plays the whole list at the first event. A box knows one event at a time, so the rest of the list is given to it beforehand: any events,
+-- which may be others for every plan, state and event.
+abbrev pub hasty : (Plan → State → Event → List Event) → Box → Box
+hasty rest box = record { answer = box .answer; next = λ p σ event. reached box p (box .next p σ event) (rest p σ event) }
+
+-- it differs from another in one place: a plan, a state and an event
+abbrev pub DifferAt : Plan → State → Event → Box → Box → Type 0
+DifferAt p σ event box other =
+    (box .answer p σ event ≢ other .answer p σ event) ⊎ (SameState (box .next p σ event) (other .next p σ event) → ⊥)
 
 -- it never says 40 to 42, but 11 in their place
 abbrev pub hushed : Answer → Answer
@@ -41,25 +59,76 @@ hushed (Refused refusal) = Refused refusal
 hushed (Accident harm) = Refused BadEvent
 hushed (Done deed) = Done deed
 
+-- whatever it says in their place
+abbrev pub Silent : Box → Type 0
+Silent box = (p : Plan) (σ : State) (event : Event) (harm : Harm) → box .answer p σ event ≢ Accident harm
+
 abbrev pub hush : Box → Box
 hush box = record { answer = λ p σ event. hushed (box .answer p σ event); next = box .next }
+
+-- every answer says that some train enters, leaves or moves, whichever and wherever: it may go by the plan, the state and the event. (A move from a track to
+-- itself comes and goes at once, and no count sees it; demand 2 does.)
+
+abbrev pub AllEnter : Box → Type 0
+AllEnter box = (p : Plan) (σ : State) (event : Event) → (train u : ℕ) × (box .answer p σ event ≡ Done (Entered train u))
+
+abbrev pub AllLeave : Box → Type 0
+AllLeave box = (p : Plan) (σ : State) (event : Event) → (train u : ℕ) × (box .answer p σ event ≡ Done (Left train u))
+
+abbrev pub AllMove : Box → Type 0
+AllMove box = (p : Plan) (σ : State) (event : Event) → (train u v : ℕ) × (u ≢ v) × (box .answer p σ event ≡ Done (Moved train u v))
+
+-- by the answers, the route lists the point and holds it since its latest grant
+abbrev pub Since : Plan → ℕ → ℕ → List Answer → Type 0
+Since p r x answers = Listed p r x × SinceGrant p r x answers
+
+-- an answer invents: what it says to come and go on a track is not the difference between what the states before and after it show there
+abbrev pub InventsAt : Plan → State → Event → ℕ → Box → Type 0
+InventsAt p σ event u box =
+    comes u (box .answer p σ event) + shown σ u ≢ goes u (box .answer p σ event) + shown (box .next p σ event) u
 
 -- What they fail (proofs/Impostors.antt, impostors).
 pub record Impostors : Type 0 where
   pub refuserFails : (box : Box) → RefusesAll box → Demand2 box → ⊥
   pub stockFails : (answer : Answer) (box : Box) → Stock answer box → Demand2 box → ⊥
   pub idleFails : (box : Box) → Idle box → Demand2 box → ⊥
-  pub hastyFails : (box : Box) → Demand2 box → Demand2 (hasty (Enter 0 1 ∷ []) box) → ⊥
+  pub eventsFail : (box : Box) → DeafToEvents box → Demand2 box → ⊥
+  pub statesFail : (box : Box) → DeafToStates box → Demand2 box → ⊥
+  -- any rest of the list played early, wherever that alters anything; and there is such a rest
+  pub hastyFails : (box : Box) → Demand2 box → (rest : Plan → State → Event → List Event) (p : Plan) → Readable p → (σ : State) (event : Event)
+      → DifferAt p σ event box (hasty rest box) → Demand2 (hasty rest box) → ⊥
+  pub hastyEntry : (box : Box) → Demand2 box → Demand2 (hasty (λ p σ event. Enter 0 1 ∷ []) box) → ⊥
+  -- a box that is right on all plans but one, and there in all states and for all events but one
+  pub strayFails : (box other : Box) → Demand2 box → (p : Plan) → Readable p → (σ : State) (event : Event) → DifferAt p σ event box other → Demand2 other → ⊥
   -- demand 3 alone doesn't ask for accidents to be said, demand 2 does
   pub hushSafe : (box : Box) → Demand2 box → Demand3 (hush box)
   pub hushFails : (box : Box) → Demand2 box → Demand2 (hush box) → ⊥
+  pub silentFails : (box : Box) → Silent box → Demand2 box → ⊥
   -- an invented rule or row: no other than that of a verdict that meets demand 2
   pub rowsFail : (verdict other : Plan → Verdict) (p : Plan) → Readable p → Judges verdict
       → (ruleNumber (other p) ≢ ruleNumber (verdict p)) ⊎ (ruleRow (other p) ≢ ruleRow (verdict p)) → Judges other → ⊥
   -- an invented form or offset: no other than that of a reader that meets demand 2
   pub offsetsFail : (read other : List ℕ → Got Plan) (file : List ℕ) {f g : Form} → Reads read → read file ≡ form f → other file ≡ form g
       → (formNumber g ≢ formNumber f) ⊎ (formOffset g ≢ formOffset f) → Reads other → ⊥
-  -- invented comings and goings, whatever the states
-  pub comingsFail : (train u : ℕ) (box : Box) → Stock (Done (Entered train u)) box → Demand3 box → ⊥
-  pub goingsFail : (train u : ℕ) (box : Box) → Stock (Done (Left train u)) box → Demand3 box → ⊥
-  pub movesFail : (train u v : ℕ) (box : Box) → u ≢ v → Stock (Done (Moved train u v)) box → Demand3 box → ⊥
+  -- invented comings and goings, whatever they go by and whatever the states
+  pub comingsFail : (box : Box) → AllEnter box → Demand3 box → ⊥
+  pub goingsFail : (box : Box) → AllLeave box → Demand3 box → ⊥
+  pub movesFail : (box : Box) → AllMove box → Demand3 box → ⊥
+  -- and a single invented coming or going, after any events
+  pub inventedFails : (box : Box) (p : Plan) → Readable p → Sound p → (events : List Event) (event : Event) (u : ℕ)
+      → InventsAt p (reached box p fresh events) event u box → Demand3 box → ⊥
+  -- a box that on one accepted plan, after some events, says an accident or 10; or shows one point held by two routes, or a hold that the answers don't
+  -- give, or lacks one that they give
+  pub harmFails : (box : Box) (p : Plan) → Readable p → Sound p → (events : List Event) (event : Event) (harm : Harm)
+      → box .answer p (reached box p fresh events) event ≡ Accident harm → Demand3 box → ⊥
+  pub illFails : (box : Box) (p : Plan) → Readable p → Sound p → (events : List Event) (event : Event)
+      → box .answer p (reached box p fresh events) event ≡ Refused IllFormed → Demand3 box → ⊥
+  pub sharedFails : (box : Box) (p : Plan) → Readable p → Sound p → (events : List Event) (k r x : ℕ)
+      → k ≢ r → Holds (reached box p fresh events) k x → Holds (reached box p fresh events) r x → Demand3 box → ⊥
+  pub holdsFail : (box : Box) (p : Plan) → Readable p → Sound p → (events : List Event) (r x : ℕ)
+      → (Holds (reached box p fresh events) r x × (Since p r x (history box p fresh events) → ⊥))
+      ⊎ (Since p r x (history box p fresh events) × (Holds (reached box p fresh events) r x → ⊥))
+      → Demand3 box → ⊥
+  -- a box whose answer to a request goes by something that it doesn't look at
+  pub aloofFails : (box : Box) (p : Plan) → Readable p → (r : ℕ) (σ τ : State) → WellFormed p σ → WellFormed p τ → Alike p r σ τ
+      → box .answer p σ (Request r) ≢ box .answer p τ (Request r) → Agreement box → ⊥

@@ -8,3 +8,5 @@ pub mod Cases
 pub mod Views
 pub mod Follow
 pub mod Kept
+pub mod Results
+pub mod ResultsUnfinished

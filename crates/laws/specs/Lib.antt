@@ -1,4 +1,5 @@
 pub mod Tests
+pub mod Once
 pub mod Chains
 pub mod Lists
 pub mod Search

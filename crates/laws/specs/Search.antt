@@ -2,7 +2,9 @@
 use mathlib.Core.Path.{_≡_, refl, ap, _∙_}
 use mathlib.Core.Bool.{Bool, true, false, cond, _&&_}
 use mathlib.Core.Logic.{_⊎_, inl, inr}
+use mathlib.Core.List.{List, [], _∷_}
 use Prim.Native.Nat.{ℕ, zero, suc, _+_, _<_, _≤_, _-_}
+use lib.Dec.{eqb}
 use native.Mathlib.Omega.{arith}
 use native.Mathlib.Nat.{not-suc-le-zero}
 use native.Mathlib.Numerals.{add-one}
@@ -36,6 +38,11 @@ lowestFrom f (suc n) i = cond (f i) (At i) (lowestFrom f n (suc i))
 -- the lowest number below n that passes
 unfoldable pub lowest : ℕ → (ℕ → Bool) → Found
 lowest n f = lowestFrom f n 0
+
+-- the first of a list that has a number, or another where none has it
+unfoldable pub firstWith : {A : Type 0} → (A → ℕ) → A → List A → ℕ → A
+firstWith number none [] n = none
+firstWith number none (a ∷ l) n = cond (eqb (number a) n) a (firstWith number none l n)
 
 -- A search in code, from its place i on.
 module _ (f : ℕ → Bool) (n i : ℕ) where

@@ -1,5 +1,5 @@
 -- Tests that answer true or false, and how a proof goes by them.
-use mathlib.Core.Path.{_≡_, refl, sym, _∙_}
+use mathlib.Core.Path.{_≡_, refl}
 use mathlib.Core.Bool.{Bool, true, false, not, cond, _&&_, _||_}
 use mathlib.Core.Logic.{_≢_, _⊎_, inl, inr}
 use Prim.Native.Nat.{ℕ, _<_, _≤_}
@@ -72,7 +72,3 @@ cond-t x y e = rw e
 
 pub cond-f {ℓ} : {A : Type ℓ} {b : Bool} (x y : A) → b ≡ false → cond b x y ≡ y
 cond-f x y e = rw e
-
--- Of two results that are both equal to what a definition gives, there is one: so a contract that is such an equality leaves no choice.
-pub one-answer {ℓ} : {A : Type ℓ} {x y z : A} → x ≡ z → y ≡ z → x ≡ y
-one-answer p q = p ∙ sym q

@@ -79,6 +79,6 @@ in-means (suc k) n h = elim (below? n 10) [
   | inr s ↦ rw (in-step (suc k) n s) (more-digits n (decimalIn (suc k) (n / 10)) s (in-means k (n / 10) (omega arith)))
 ]
 
-pub decimal-means : (n : ℕ) → n < 2 ^ 64 → Decimal n (decimal n)
+pub decimal-means : (n : ℕ) → n < 10 ^ numberMost → Decimal n (decimal n)
 unfolding decimal
-decimal-means n fits = in-means 19 n (omega arith)
+decimal-means n fits = in-means 19 n fits

@@ -11,3 +11,9 @@ pub record Wrote (bytes before : List ℕ) (at : ℕ) (after : List ℕ) (next :
   pub written : after ≡ sets before at bytes
   pub ends : next ≡ at + length bytes
   pub within : next ≤ length before
+
+-- It leaves one memory, and hands back one offset (proofs/Once.antt).
+abbrev pub WroteOnce : Type 0
+WroteOnce =
+    (bytes before : List ℕ) (at : ℕ) (after other : List ℕ) (next further : ℕ) → Wrote bytes before at after next → Wrote bytes before at other further
+    → (after ≡ other) × (next ≡ further)

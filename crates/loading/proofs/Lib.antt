@@ -2,3 +2,5 @@ pub mod Copying
 pub mod Filling
 pub mod Steps
 pub mod Stored
+pub mod Results
+pub mod ResultsStore

@@ -6,3 +6,4 @@ pub mod Sections
 pub mod Bench
 pub mod Sound
 pub mod Whole
+pub mod Results

@@ -1,15 +1,16 @@
 -- What reading a plan file means: document 01, "The plan file", as laws of `parse`. Assumes nothing.
-use mathlib.Core.Path.{_≡_}
-use mathlib.Core.List.{List, []}
+use mathlib.Core.Path.{_≡_, refl, sym, _∙_}
+use mathlib.Core.List.{List, [], _∷_}
 use mathlib.Core.Logic.{_↔_}
 use Prim.Native.Nat.{ℕ, _+_, _≤_, _<_}
 use native.Mathlib.Omega.{arith}
 use lib.ListN.{length, take}
+use Rattle.laws.specs.Search.{firstWith}
 use Rattle.plan.specs.Limits.{imageSize}
 use Rattle.plan.specs.Records.{Plan}
 use Rattle.plan.specs.File.{fileOf, Readable}
 use Rattle.reading.specs.declared.Form.{Form}
-use Rattle.reading.specs.declared.Form.the-variants.{LeftOver}
+use Rattle.reading.specs.declared.Form.the-variants.{EndsEarly, BadCount, BadNumber, NotRising, LeftOver}
 use Rattle.reading.specs.Reading.{formNumber, formOffset, form, got, parse}
 use Rattle.reading.proofs.Sections.{sections-sound}
 use Rattle.reading.proofs.Whole.{file-reads, answers, got-back, early-place, byte-place, over-place, over-back, long-same}
@@ -46,3 +47,19 @@ readable-fits = sections-sound .fits
 -- A file that is longer gets the answer of its bytes up to the first one that is too many.
 pub longer-same : (s : List ℕ) → parse s ≡ parse (take (imageSize + 1) s)
 longer-same s = long-same (imageSize + 1) s (omega arith)
+
+-- A form's number and offset say which form it is.
+
+formOf : ℕ → ℕ → Form
+formOf n at = firstWith formNumber (EndsEarly at) (EndsEarly at ∷ BadCount at ∷ BadNumber at ∷ NotRising at ∷ LeftOver at ∷ []) n
+
+form-back : (f : Form) → formOf (formNumber f) (formOffset f) ≡ f
+unfolding formOf firstWith
+form-back (EndsEarly at) = refl
+form-back (BadCount at) = refl
+form-back (BadNumber at) = refl
+form-back (NotRising at) = refl
+form-back (LeftOver at) = refl
+
+pub same-form : (f g : Form) → formNumber f ≡ formNumber g → formOffset f ≡ formOffset g → f ≡ g
+same-form f g n at = sym (form-back f) ∙ rw (n, at) (form-back g)

@@ -1,2 +1,3 @@
 pub mod Paths
 pub mod Ways
+pub mod Results

@@ -1,5 +1,5 @@
 -- Lines, with an unfinished event before them and after them. Assumes nothing.
-use mathlib.Core.Path.{_≡_, refl, sym, subst, _∙_}
+use mathlib.Core.Path.{_≡_, refl, sym, _∙_}
 use mathlib.Core.Bool.{true}
 use mathlib.Core.Logic.{_≢_, inl, inr}
 use mathlib.Core.List.{List, [], _∷_}
@@ -23,43 +23,24 @@ use Rattle.events.proofs.Bytes.{event-short}
 use Rattle.events.proofs.Kept.{fresh-formed, next-formed}
 use Rattle.events.proofs.Pieces.{events-length, events-at, waiting-count}
 use Rattle.lines.specs.Lines.{answerLine, lineMost}
-use Rattle.lines.specs.Written.{Wrote}
 use Rattle.demands.specs.Demands.{reached}
 use Rattle.demands.specs.Ours.{ours}
-use Rattle.demands.specs.Session.{stateAfter, linesOf, Between}
+use Rattle.demands.specs.Session.{stateAfter}
 use Rattle.codes.specs.Codes.{readCode}
 use Rattle.signalbox.specs.Face.{inTheWay, tooLong, unless, Answered}
 use Rattle.signalbox.proofs.Faced.{some-form, some-ill}
-use Rattle.signalbox.proofs.Playing.{Playing, nothing, none-kept, played-none, playing-end}
+use Rattle.signalbox.proofs.Playing.{Playing, none-kept, played-none, playing-end}
 
-module _ (file : List ℕ) (σ : State) {reason : ℕ} (events : List Event) (lines : List ℕ) (next : Between) (unfinished out : List ℕ) where
+module _ (file : List ℕ) (σ : State) {reason : ℕ} (events : List Event) (left unfinished out : List ℕ) where
   pub answered-none : {c : ℕ} → c ≡ reason → c ≢ 0
-      → Answered (parse file) σ unfinished reason events lines next out (record { code = c; written = 0 }) σ unfinished out
-  answered-none e d =
-      let n : reason ≢ 0 = λ z. d (e ∙ z) in
-      let p = played-none answerLine file σ events out e d in
-      record {
-        code = e;
-        state = none-kept (next .state) σ n;
-        kept = none-kept (unfinishedCells (next .unfinished)) unfinished n;
-        written = subst (λ l. Wrote l out 0 out 0) (none-kept lines [] n) (nothing out);
-        carries = p .carries;
-      }
+      → Answered (parse file) σ unfinished reason events left out (record { code = c; written = 0 }) σ unfinished out
+  answered-none e d = record { played = played-none answerLine file σ events out e d; kept = none-kept (unfinishedCells left) unfinished (λ z. d (e ∙ z)) }
 
-  pub answered-all : linesOf (parse file) σ events ≡ lines → stateAfter (parse file) σ events ≡ next .state → {image : List ℕ} {count i : ℕ} {τ : State} {out′ : List ℕ} {at : ℕ}
-      → Playing answerLine lineMost file image reason events σ out count i τ out′ at → count ≤ i → {unfinished′ : List ℕ} → unfinished′ ≡ unfinishedCells (next .unfinished)
-      → Answered (parse file) σ unfinished reason events lines next out (record { code = 0; written = at }) τ unfinished′ out′
-  unfolding unless linesOf
-  answered-all said reached l h k =
-      let p = playing-end l h in
-      let z = l .free in
-      record {
-        code = p .code;
-        state = rw z (rw z at (p .state) ∙ reached);
-        kept = rw z k;
-        written = rw (z, ← said) (rw z at (p .written));
-        carries = p .carries;
-      }
+  pub answered-all : {image : List ℕ} {count i : ℕ} {τ : State} {out′ : List ℕ} {at : ℕ}
+      → Playing answerLine lineMost file image reason events σ out count i τ out′ at → count ≤ i → {unfinished′ : List ℕ} → unfinished′ ≡ unfinishedCells left
+      → Answered (parse file) σ unfinished reason events left out (record { code = 0; written = at }) τ unfinished′ out′
+  unfolding unless
+  answered-all l h k = record { played = playing-end l h; kept = rw (l .free) k }
 
 -- What is unfinished has no more than two bytes.
 

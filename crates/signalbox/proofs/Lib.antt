@@ -4,3 +4,6 @@ pub mod Feeding
 pub mod Opening
 pub mod Playing
 pub mod Same
+pub mod Once
+pub mod Results
+pub mod ResultsSaid

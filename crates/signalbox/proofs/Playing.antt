@@ -3,7 +3,7 @@
 use mathlib.Core.Path.{_≡_, refl, sym, ap, subst, _∙_}
 use mathlib.Core.Bool.{true}
 use mathlib.Core.Logic.{_≢_}
-use mathlib.Core.List.{List, [], _∷_, _++_, append-assoc, append-nil}
+use mathlib.Core.List.{List, [], _∷_, _++_, append-nil}
 use Prim.Native.Nat.{ℕ, zero, suc, _+_, _-_, _*_, _/_, _<_, _≤_}
 use native.Mathlib.Nat.{zero-add, sub-zero, mul-suc}
 use native.Mathlib.Numerals.{add-one}
@@ -34,7 +34,8 @@ use Rattle.lines.proofs.Runs.{wrote-then, wrote-byte}
 use Rattle.demands.specs.Demands.{history, reached}
 use Rattle.demands.specs.Ours.{ours}
 use Rattle.demands.specs.Session.{answersOf, stateAfter, Carries}
-use Rattle.demands.proofs.Session.{reached-append, history-append, goes-on}
+use Rattle.demands.proofs.Demand3.{reached-append, history-append}
+use Rattle.demands.proofs.Session.{goes-on, none-after, joined-append}
 use Rattle.codes.specs.Codes.{packed, answerCode, noRoom}
 use Rattle.signalbox.specs.Face.{firstReason, inTheWay, tooLong, tooMany, runReason, lineReason, unless, codeOf, Played}
 use Rattle.signalbox.proofs.Faced.{Ready, readable-image}
@@ -89,13 +90,13 @@ all-kept : {reason : ℕ} {A : Type 0} (x y : A) → reason ≡ 0 → x ≡ unle
 unfolding unless
 all-kept x y e = rw e
 
-pub nothing : (out : List ℕ) → Wrote [] out 0 out 0
+nothing : (out : List ℕ) → Wrote [] out 0 out 0
 nothing out = record { written = refl; ends = refl; within = omega arith }
 
-none-played : (write : Answer → List ℕ) (g : Got Plan) (σ : State) (out : List ℕ) → (σ ≡ stateAfter g σ []) × Wrote (joined write (answersOf g σ [])) out 0 out 0
-unfolding joined answersOf stateAfter history reached
-none-played write (form f) σ out = (refl, nothing out)
-none-played write (got p at rest) σ out = (refl, nothing out)
+none-written : (write : Answer → List ℕ) (g : Got Plan) (σ : State) (out : List ℕ) → Wrote (joined write (answersOf g σ [])) out 0 out 0
+unfolding joined answersOf history
+none-written write (form f) σ out = nothing out
+none-written write (got p at rest) σ out = nothing out
 
 module _ (write : Answer → List ℕ) (file : List ℕ) (σ : State) {reason : ℕ} (events : List Event) (out : List ℕ) where
   these : {c : ℕ} (l : List Event) → l ≡ unless reason events [] → c ≡ reason → {τ : State} {out′ : List ℕ} {n : ℕ} → τ ≡ stateAfter (parse file) σ l
@@ -110,7 +111,7 @@ module _ (write : Answer → List ℕ) (file : List ℕ) (σ : State) {reason : 
       }
 
   pub played-none : {c : ℕ} → c ≡ reason → c ≢ 0 → Played write (parse file) σ reason events out (record { code = c; written = 0 }) σ out
-  played-none e d = let w = none-played write (parse file) σ out in these [] (none-kept events [] (λ z. d (e ∙ z))) e (w .0) (w .1)
+  played-none e d = these [] (none-kept events [] (λ z. d (e ∙ z))) e (sym (none-after (parse file) σ)) (none-written write (parse file) σ out)
 
   pub played-all : {τ : State} {out′ : List ℕ} {n : ℕ} → reason ≡ 0 → τ ≡ stateAfter (parse file) σ events
       → Wrote (joined write (answersOf (parse file) σ events)) out 0 out′ n → Played write (parse file) σ reason events out (record { code = 0; written = n }) τ out′
@@ -120,17 +121,16 @@ module _ (write : Answer → List ℕ) (file : List ℕ) (σ : State) {reason : 
 
 joined-more : (f : Answer → List ℕ) (l : List Answer) (a : Answer) → joined f (l ++ (a ∷ [])) ≡ joined f l ++ f a
 unfolding joined
-joined-more f [] a = append-nil (f a)
-joined-more f (x ∷ l) a = rw (joined-more f l a) (sym (append-assoc (f x) (joined f l) (f a)))
+joined-more f l a = joined-append f l (a ∷ []) ∙ ap (λ (x : List ℕ). joined f l ++ x) (append-nil (f a))
 
 module _ (p : Plan) where
   reached-more : (σ : State) (a : List Event) (e : Event) → reached ours p σ (a ++ (e ∷ [])) ≡ nextState p (reached ours p σ a) e
   unfolding reached
-  reached-more σ a e = reached-append p σ a (e ∷ [])
+  reached-more σ a e = reached-append ours p σ a (e ∷ [])
 
   history-more : (σ : State) (a : List Event) (e : Event) → history ours p σ (a ++ (e ∷ [])) ≡ history ours p σ a ++ (answer p (reached ours p σ a) e ∷ [])
   unfolding history
-  history-more σ a e = history-append p σ a (e ∷ [])
+  history-more σ a e = history-append ours p σ a (e ∷ [])
 
   -- in a well-formed state the answer is what is decided
   when-formed : (σ : State) (e : Event) → wellFormed p σ ≡ true → answer p σ e ≡ decided p σ e

@@ -4,11 +4,18 @@ use mathlib.Core.Path.{_≡_}
 use mathlib.Core.List.{List, [], _∷_, _++_}
 use Prim.Native.Nat.{ℕ}
 use lib.ListN.{take}
-use Rattle.reading.specs.Reading.{parse}
+use Rattle.reading.specs.Reading.{got, parse}
 use Rattle.state.specs.declared.State.{State}
-use Rattle.demands.specs.Session.{printed, whole}
+use Rattle.plan.specs.Records.{Plan}
+use Rattle.rules.specs.declared.Verdict.the-variants.{Accepted}
+use Rattle.rules.specs.Verdict.{verdict}
+use Rattle.events.specs.declared.Event.{Event}
+use Rattle.events.specs.declared.Answer.{Answer}
+use Rattle.demands.specs.Demands.{history, Safe}
+use Rattle.demands.specs.Ours.{ours}
+use Rattle.demands.specs.Session.{printed, whole, FromFresh}
 use Rattle.signalbox.specs.declared.Outcome.{Outcome}
-use Rattle.signalbox.specs.Face.{Started, Opened, Feeds, Finishes}
+use Rattle.signalbox.specs.Face.{unless, Started, Stepped, Played, Opened, Feeds, Finishes}
 
 -- A call: the buffer that is lent, and what is then handed back and left.
 pub record Call : Type 0 where
@@ -38,3 +45,12 @@ abbrev pub AsPrinted : Type 0
 AsPrinted =
     (file : List ℕ) (pieces : List (List ℕ)) (σ : State) (unfinished : List ℕ) → Started σ unfinished → (out : List ℕ) (r : Outcome) (out′ : List ℕ)
     → Opened (parse file) out r out′ → r .code ≡ 0 → (lines : List ℕ) → Says file σ unfinished pieces lines → take (r .written) out′ ++ lines ≡ printed file (whole pieces)
+
+-- A call is safe: on an accepted plan, where the answers before it led from fresh to the state that it is lent, demand 3 holds of these and its own
+-- (proofs/Called.antt, calls-safe). A run, a feed and a finish are played alike.
+pub record CallsSafe : Type 0 where
+  pub step : (file : List ℕ) {p : Plan} {at : ℕ} {rest : List ℕ} → parse file ≡ got p at rest → verdict p ≡ Accepted → (before : List Answer) (σ : State) → FromFresh p before σ
+      → (event : Event) (r : ℕ) (τ : State) → Stepped (parse file) σ event r τ → Safe p (before ++ history ours p σ (event ∷ [])) τ
+  pub run : (file : List ℕ) {p : Plan} {at : ℕ} {rest : List ℕ} → parse file ≡ got p at rest → verdict p ≡ Accepted → (before : List Answer) (σ : State) → FromFresh p before σ
+      → (write : Answer → List ℕ) (reason : ℕ) (events : List Event) (out : List ℕ) (r : Outcome) (τ : State) (out′ : List ℕ)
+      → Played write (parse file) σ reason events out r τ out′ → Safe p (before ++ history ours p σ (unless reason events [])) τ

@@ -4,7 +4,7 @@
 use Prim.Native.Nat.{ℕ, zero, suc, _/_}
 use mathlib.Core.Path.{_≡_}
 use mathlib.Core.Bool.{cond}
-use mathlib.Core.List.{List, [], _∷_}
+use mathlib.Core.List.{List, [], _∷_, _++_}
 use lib.ListN.{length, getD}
 use lib.Dec.{ltb}
 use Rattle.laws.specs.Lists.{joined}
@@ -16,11 +16,11 @@ use Rattle.events.specs.declared.Event.{Event}
 use Rattle.events.specs.declared.Refusal.the-variants.{IllFormed}
 use Rattle.events.specs.declared.Answer.{Answer}
 use Rattle.events.specs.declared.Answer.the-variants.{Refused}
-use Rattle.events.specs.Events.{eventsOf, unfinishedIn, unfinishedCells}
+use Rattle.events.specs.Events.{eventsOf, leftOver, unfinishedIn, unfinishedCells}
 use Rattle.events.specs.Decide.{answer}
-use Rattle.lines.specs.Lines.{lineMost}
+use Rattle.lines.specs.Lines.{answerLine, lineMost}
 use Rattle.lines.specs.Written.{Wrote}
-use Rattle.demands.specs.Session.{answersOf, stateAfter, firstLine, Between, between, due, fed, fedLines, ended, endLines, Carries}
+use Rattle.demands.specs.Session.{answersOf, stateAfter, firstLine, Between, between, due, Carries}
 use Rattle.signalbox.specs.declared.Outcome.{Outcome}
 use Rattle.codes.specs.Codes.{answerCode, formCode, noRoom}
 
@@ -89,13 +89,10 @@ pub record Played (write : Answer → List ℕ) (g : Got Plan) (σ : State) (rea
 abbrev pub Ran : Got Plan → State → List ℕ → List ℕ → Outcome → State → List ℕ → Type 0
 Ran g σ bytes out r τ out′ = Played codeOf g σ (runReason g σ (eventsOf bytes) (length out)) (eventsOf bytes) out r τ out′
 
--- Lines, with an unfinished event before and after: these events are played, these lines written, and this then stands between two reads.
-pub record Answered (g : Got Plan) (σ : State) (unfinished : List ℕ) (reason : ℕ) (events : List Event) (lines : List ℕ) (next : Between) (out : List ℕ) (r : Outcome) (τ : State) (unfinished′ out′ : List ℕ) : Type 0 where
-  pub code : r .code ≡ reason
-  pub state : τ ≡ unless reason (next .state) σ
-  pub kept : unfinished′ ≡ unless reason (unfinishedCells (next .unfinished)) unfinished
-  pub written : Wrote (unless reason lines []) out 0 out′ (r .written)
-  pub carries : Carries g σ (unless reason events []) τ
+-- A run as lines, with an unfinished event before and after: what is left over then is unfinished.
+pub record Answered (g : Got Plan) (σ : State) (unfinished : List ℕ) (reason : ℕ) (events : List Event) (left out : List ℕ) (r : Outcome) (τ : State) (unfinished′ out′ : List ℕ) : Type 0 where
+  pub played : Played answerLine g σ reason events out r τ out′
+  pub kept : unfinished′ ≡ unless reason (unfinishedCells left) unfinished
 
 -- what stands between two reads, as the lent memory holds it
 abbrev pub standing : State → List ℕ → Between
@@ -105,14 +102,13 @@ standing σ unfinished = between σ (unfinishedIn unfinished)
 abbrev pub Feeds : Got Plan → State → List ℕ → List ℕ → List ℕ → Outcome → State → List ℕ → List ℕ → Type 0
 Feeds g σ unfinished bytes out r τ unfinished′ out′ =
     let b = standing σ unfinished in
-    Answered g σ unfinished (lineReason g σ unfinished (due b bytes) (length out)) (due b bytes) (fedLines g b bytes) (fed g b bytes) out r τ unfinished′ out′
+    Answered g σ unfinished (lineReason g σ unfinished (due b bytes) (length out)) (due b bytes) (leftOver (b .unfinished ++ bytes)) out r τ unfinished′ out′
 
--- finishing plays what is unfinished as an incomplete event
+-- finishing plays what is unfinished as an incomplete event, and nothing is left over
 abbrev pub Finishes : Got Plan → State → List ℕ → List ℕ → Outcome → State → List ℕ → List ℕ → Type 0
 Finishes g σ unfinished out r τ unfinished′ out′ =
-    let b = standing σ unfinished in
-    let events = eventsOf (b .unfinished) in
-    Answered g σ unfinished (lineReason g σ unfinished events (length out)) events (endLines g b) (ended g b) out r τ unfinished′ out′
+    let events = eventsOf (unfinishedIn unfinished) in
+    Answered g σ unfinished (lineReason g σ unfinished events (length out)) events [] out r τ unfinished′ out′
 
 -- The line for the plan, where there is room for the longest one.
 unfoldable pub openReason : ℕ → ℕ

@@ -9,6 +9,8 @@ use lib.Seq.{take-all, drop-drop}
 use Rattle.plan.specs.Limits.{mostTracks, mostSignals}
 use Rattle.state.specs.declared.State.{State}
 use Rattle.state.specs.State.{fresh}
+use Rattle.state.specs.declared.HoldSet.{HoldSet}
+use Rattle.state.specs.Once.{RoutesOnce, LentOnce}
 use Rattle.state.specs.Cells.{trainsFrom, liesFrom, signalsFrom, cellsSize, part, trainsIn, liesIn, signalsIn, stateIn}
 
 pub zeros-fresh : stateIn (replicate cellsSize 0) (replicate mostTracks 0) ≡ fresh
@@ -31,8 +33,13 @@ parts-cover cells n =
     ap (λ (l : List ℕ). trainsIn cells ++ l) (ap (λ (l : List ℕ). liesIn cells ++ l) (part-last signalsFrom mostSignals cells (omega arith)) ∙ part-joins liesFrom mostTracks cells)
     ∙ part-joins trainsFrom mostTracks cells
 
-pub same-state-same-cells : {cells cells′ holds holds′ : List ℕ} → length cells ≡ cellsSize → length cells′ ≡ cellsSize
-    → stateIn cells holds ≡ stateIn cells′ holds′ → (cells ≡ cells′) × (holds ≡ holds′)
-same-state-same-cells {cells} {cells′} n n′ e =
-    let f : State → List ℕ = λ σ. σ .trains ++ (σ .lies ++ σ .signals) in
-    (sym (parts-cover cells n) ∙ ap f e ∙ parts-cover cells′ n′, ap (λ (σ : State). σ .holds) e)
+pub lent-once : LentOnce
+lent-once σ cells other holds others n m e f =
+    let parts : State → List ℕ = λ τ. τ .trains ++ (τ .lies ++ τ .signals) in
+    (sym (parts-cover cells n) ∙ ap parts (e ∙ sym f) ∙ parts-cover other m, ap (λ (τ : State). τ .holds) (e ∙ sym f))
+
+pub routes-once : RoutesOnce
+routes-once routes x y p q = ap holding (p ∙ sym q)
+  where
+    holding : ℕ → HoldSet
+    holding n = record { routes = n }

@@ -4,3 +4,6 @@ pub mod Tests
 pub mod Formed
 pub mod Parts
 pub mod Lent
+pub mod Results
+pub mod ResultsCells
+pub mod ResultsForm

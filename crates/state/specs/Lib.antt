@@ -1,3 +1,4 @@
 pub mod Holds
 pub mod State
 pub mod Cells
+pub mod Once

@@ -55,6 +55,17 @@ pub struct Mismatch {
     pub trouble: Trouble,
 }
 
+impl Mismatch {
+    /// Which comparison has found it.
+    pub fn work_in_words(&self) -> &'static str {
+        match self.work {
+            Work::Step(..) => "single steps",
+            Work::Agreement(_) => "two states",
+            _ => "cases",
+        }
+    }
+}
+
 /// Compares one case, made from this seed.
 pub fn try_case(subject: &dyn Subject, seed: u64, case: &Case) -> Option<Mismatch> {
     let mut sides = Sides::new(subject, &case.plan);

@@ -70,17 +70,38 @@ pub fn limits(count_place: Place) -> RangeInclusive<usize> {
     }
 }
 
+/// What is asked of a count, and of a number in a list that must rise.
+#[derive(Clone, Copy)]
+pub struct Needs<'a> {
+    /// The limits of the count at this place.
+    pub limits: &'a dyn Fn(Place) -> RangeInclusive<usize>,
+    /// Whether a number of the list at this place, the last argument, may follow those before it.
+    pub rises: &'a dyn Fn(Place, &[usize], usize) -> bool,
+}
+
+/// The document's own.
+pub const NEEDS: Needs = Needs {
+    limits: &limits,
+    rises: &|_, before, number| before.last().is_none_or(|&forerunner| forerunner < number),
+};
+
 /// Reads a whole file.
 pub fn read(bytes: &[u8]) -> Result<Plan> {
-    read_within(bytes, limits)
+    read_by(bytes, NEEDS)
 }
 
 /// Reads a whole file whose counts have these limits.
-pub fn read_within(bytes: &[u8], limits: fn(Place) -> RangeInclusive<usize>) -> Result<Plan> {
+pub fn read_within(bytes: &[u8], limits: impl Fn(Place) -> RangeInclusive<usize>) -> Result<Plan> {
+    let limits = &limits;
+    read_by(bytes, Needs { limits, ..NEEDS })
+}
+
+/// Reads a whole file of which this is asked.
+pub fn read_by(bytes: &[u8], needs: Needs) -> Result<Plan> {
     let mut reader = Reader {
         bytes,
         offset: 0,
-        limits,
+        needs,
     };
     let tracks = reader.tracks()?;
     let is_track = |track: usize| track < tracks.len();
@@ -104,7 +125,7 @@ struct Reader<'a> {
     bytes: &'a [u8],
     /// Of the next byte to be read.
     offset: usize,
-    limits: fn(Place) -> RangeInclusive<usize>,
+    needs: Needs<'a>,
 }
 
 impl Reader<'_> {
@@ -125,7 +146,7 @@ impl Reader<'_> {
 
     fn count(&mut self, place: Place) -> Result<usize> {
         let count = self.byte(place)?;
-        if (self.limits)(place).contains(&count) {
+        if (self.needs.limits)(place).contains(&count) {
             Ok(count)
         } else {
             Err(self.here(2, place))
@@ -147,14 +168,14 @@ impl Reader<'_> {
     fn rising(
         &mut self,
         place: Place,
-        forerunner: Option<usize>,
+        before: &[usize],
         good: impl Fn(usize) -> bool,
     ) -> Result<usize> {
         let number = self.number(place, good)?;
-        if forerunner.is_some_and(|forerunner| number <= forerunner) {
-            Err(self.here(4, place))
-        } else {
+        if (self.needs.rises)(place, before, number) {
             Ok(number)
+        } else {
+            Err(self.here(4, place))
         }
     }
 
@@ -168,7 +189,7 @@ impl Reader<'_> {
         let count = self.count(count_place)?;
         let mut list = Vec::with_capacity(count);
         for _ in 0..count {
-            list.push(self.rising(place, list.last().copied(), &good)?);
+            list.push(self.rising(place, &list, &good)?);
         }
         Ok(list)
     }
@@ -223,11 +244,12 @@ impl Reader<'_> {
         let reverse = self.list(Place::ReverseCount, Place::Reverse, is_point)?;
         let release_count = self.count(Place::ReleaseCount)?;
         let mut releases: Vec<Release> = Vec::with_capacity(release_count);
+        let mut points = Vec::with_capacity(release_count);
         for _ in 0..release_count {
-            let forerunner = releases.last().map(|release| release.point);
             let track = self.number(Place::ReleaseTrack, is_track)?;
-            let point = self.rising(Place::ReleasePoint, forerunner, is_point)?;
+            let point = self.rising(Place::ReleasePoint, &points, is_point)?;
             releases.push(Release { track, point });
+            points.push(point);
         }
         Ok(Route {
             start,
@@ -243,11 +265,12 @@ impl Reader<'_> {
         let is_track = |track: usize| track < tracks;
         let count = self.count(Place::EntryCount)?;
         let mut entries: Vec<Entry> = Vec::with_capacity(count);
+        let mut tracks = Vec::with_capacity(count);
         for _ in 0..count {
-            let forerunner = entries.last().map(|entry| entry.track);
-            let track = self.rising(Place::EntryTrack, forerunner, is_track)?;
+            let track = self.rising(Place::EntryTrack, &tracks, is_track)?;
             let clear = self.list(Place::EntryClearCount, Place::EntryClear, is_track)?;
             entries.push(Entry { track, clear });
+            tracks.push(track);
         }
         Ok(entries)
     }

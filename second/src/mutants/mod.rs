@@ -24,10 +24,10 @@ use crate::subject::{Kept, Lent};
 use programs::InProcess;
 
 /// More cases than any of them has needed so far; a mutant that gets through them all survives.
-const MOST_CASES: usize = 20_000;
+pub const MOST_CASES: usize = 20_000;
 
 /// How many there must be at least, so that none is lost unseen. They may only grow.
-const LEAST_BOXES: usize = 240;
+const LEAST_BOXES: usize = 242;
 const LEAST_PROGRAMS: usize = 44;
 
 /// A wrong function in place of a right one.
@@ -49,10 +49,34 @@ enum Wrong {
 /// What is wrong, in words and in deed.
 type Slip = (&'static str, Wrong);
 
+/// Where a wrong function shows.
+#[derive(Clone, Copy, Debug, PartialEq, Eq)]
+pub enum Shows {
+    /// In what is printed from the fresh state on.
+    InSessions,
+    /// In single steps from arbitrary states, and in no session from the fresh one.
+    InSteps,
+    /// In calls that are no matter of the document.
+    InCalls,
+}
+
+impl Wrong {
+    fn shows(&self) -> Shows {
+        match self {
+            Wrong::Read(_) | Wrong::Check(_) | Wrong::Step(_) | Wrong::Whole(_) => {
+                Shows::InSessions
+            }
+            Wrong::Load(_) | Wrong::StepArrays(_) => Shows::InSteps,
+            _ => Shows::InCalls,
+        }
+    }
+}
+
 /// A book with one wrong function.
 pub struct Mutant {
     pub name: &'static str,
     pub book: Book,
+    pub shows: Shows,
 }
 
 /// Every mutant there is.
@@ -82,6 +106,7 @@ pub fn all() -> Vec<Mutant> {
 
 fn mutant((name, wrong): Slip) -> Mutant {
     let mut book = MODEL;
+    let shows = wrong.shows();
     match wrong {
         Wrong::Read(read) => book.read = read,
         Wrong::Check(check) => book.check = check,
@@ -95,7 +120,7 @@ fn mutant((name, wrong): Slip) -> Mutant {
         Wrong::Finish(finish) => book.finish = finish,
         Wrong::Open(open) => book.open = open,
     }
-    Mutant { name, book }
+    Mutant { name, book, shows }
 }
 
 /// Holds every mutant and every wrong program against the model, a line for each; true if there are
@@ -179,7 +204,7 @@ fn print_caught(mutant: &Mutant, cases: usize, mismatch: &Mismatch) {
     );
 }
 
-fn shortened(words: &str) -> String {
+pub fn shortened(words: &str) -> String {
     match words.char_indices().nth(70) {
         Some((end, _)) => format!("{} ...", &words[..end]),
         None => words.to_string(),

@@ -66,6 +66,27 @@ pub const ALL: &[Slip] = &[
     ("11 before 10", Wrong::StepArrays(eleven_first)),
     ("10 empties the state", Wrong::StepArrays(ten_empties)),
     (
+        "a state that is not well formed is 11",
+        Wrong::StepArrays(|book, plan, arrays, event, spare| {
+            match book.any_step(plan, arrays, event, spare) {
+                Answer::Refused(Refusal::NotWellFormed) => Answer::Refused(Refusal::BadEvent),
+                answer => answer,
+            }
+        }),
+    ),
+    (
+        "a state that is not well formed is played",
+        Wrong::StepArrays(|book, plan, arrays, event, spare| {
+            let answer = book.any_step(plan, arrays, event, spare);
+            match answer {
+                Answer::Refused(Refusal::NotWellFormed) => {
+                    step(plan, &mut State::fresh(plan), event)
+                }
+                _ => answer,
+            }
+        }),
+    ),
+    (
         "an incomplete single event is filled up",
         Wrong::StepArrays(filled_up),
     ),
@@ -142,7 +163,8 @@ fn eleven_first(
     spare: &mut State,
 ) -> Answer {
     let bad_event = Answer::Refused(Refusal::BadEvent);
-    if step(plan, &mut State::fresh(plan), event) == bad_event {
+    let played = &event[..event.len().min(EVENT)];
+    if step(plan, &mut State::fresh(plan), played) == bad_event {
         return bad_event;
     }
     book.any_step(plan, arrays, event, spare)

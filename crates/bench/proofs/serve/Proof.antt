@@ -5,7 +5,7 @@ use lib.Seq.{length-take-le}
 use Rattle.reading.specs.Reading.{parse}
 use Rattle.state.specs.Cells.{stateIn}
 use denote.Ref.{now}
-use Rattle.bench.proofs.Served.{full-piece, full-lines, still, Serving, serving-start, serving-end, serving-room, serving-turn}
+use Rattle.bench.proofs.Served.{full-piece, full-lines, still, turn-within, Serving, serving-start, serving-end, serving-room, serving-turn}
 use borrow.Author.Needs.{needs}
 use Rattle.bench.proofs.serve.Statement.{statement}
 use Rattle.bench.proofs.serve.Tie as tie
@@ -29,10 +29,10 @@ turn-requires : tie.Need-turn-requires Inv-loop μ-loop
 turn-requires c κs = (c .before .before .before .before .before .before .loop .inv .on .served .serves, (full-piece, full-lines))
 
 array-share-prefix-lines : tie.Need-array-share-prefix-lines Inv-loop μ-loop
-array-share-prefix-lines c = c .before .before .turn .ensures .within
+array-share-prefix-lines c = turn-within _ (c .before .before .turn .ensures)
 
 slice-aggregate-write-all : tie.Need-slice-aggregate-write-all Inv-loop μ-loop
-slice-aggregate-write-all c = sym (length-take-le _ _ (c .before .before .before .turn .ensures .within))
+slice-aggregate-write-all c = sym (length-take-le _ _ (turn-within _ (c .before .before .before .turn .ensures)))
 
 write-all-requires : tie.Need-write-all-requires Inv-loop μ-loop
 write-all-requires c κs = search needs
@@ -40,13 +40,13 @@ write-all-requires c κs = search needs
 returns : tie.Need-returns Inv-loop μ-loop
 returns c =
     let done = c .before .before .before .before .before in
-    serving-end (done .before .before .before .before .before .before .before .loop .inv) (done .turn .ensures) (c .if1 .taken)
+    serving-end _ (done .before .before .before .before .before .before .before .loop .inv) (done .turn .ensures) (c .if1 .taken)
 
 add-total : tie.Need-add-total Inv-loop μ-loop
 add-total c =
     let done = c .before .before .before .before .before in
     let test = done .before .before .before .before .before .before in
-    omega (arith, serving-room (test .before .loop .inv) (done .turn .ensures) (still (done .turn .kept .1 .1 .1 .1 .0) full-piece) (test .loop-test .taken))
+    omega (arith, serving-room _ (test .before .loop .inv) (done .turn .ensures) (still (done .turn .kept .1 .1 .1 .1 .0) full-piece) (test .loop-test .taken))
 
 sub-turns : tie.Need-sub-turns Inv-loop μ-loop
 sub-turns c = search needs
@@ -58,7 +58,7 @@ loop-again : tie.Need-loop-again Inv-loop μ-loop
 loop-again c =
     let done = c .before .before .before .before .before in
     let test = done .before .before .before .before .before .before in
-    serving-turn (test .before .loop .inv) (done .turn .ensures) (still (done .turn .kept .1 .1 .1 .1 .0) full-piece) (test .loop-test .taken)
+    serving-turn _ (test .before .loop .inv) (done .turn .ensures) (still (done .turn .kept .1 .1 .1 .1 .0) full-piece) (test .loop-test .taken)
 
 returns-2 : tie.Need-returns-2 Inv-loop μ-loop
 returns-2 c = c .before .loop .inv .on

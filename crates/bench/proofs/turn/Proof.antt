@@ -32,7 +32,7 @@ returns c =
     let read = fed .before .before .before .before .before .before .before .before in
     let s = read .before .before .before .before .before in
     turned (now (s .args .plan)) (take (read .next .result) (read .next .last .0)) (s .pre .0) (omega (arith, read .next .ensures .0, read .next .ensures .1, read .next .kept .0, s .pre .1 .0)) (s .pre .1 .1)
-    (fed .signalbox-feed .ensures) refl (read .next .ensures .0) (fed .signalbox-feed .kept .1 .1 .1 .1 .1 .0)
+    (fed .signalbox-feed .ensures) refl (read .next .ensures .0)
 
 pub turn-spec : {M : Type 1} → statement M
 turn-spec =

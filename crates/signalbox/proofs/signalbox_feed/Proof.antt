@@ -43,7 +43,7 @@ ready-requires c κs = search needs
 returns : tie.Need-returns Inv-loop μ-loop
 returns c =
     let s = start (c .before) in
-    answered-none (now (s .args .file)) _ _ _ _ _ _ (line-stopped _ _ _ _ _ (c .before .ready .ensures .0) (c .if1 .taken)) (c .if1 .taken)
+    answered-none (now (s .args .file)) _ _ _ _ _ (line-stopped _ _ _ _ _ (c .before .ready .ensures .0) (c .if1 .taken)) (c .if1 .taken)
 
 element-copy-out-wide : tie.Need-element-copy-out-wide Inv-loop μ-loop
 element-copy-out-wide c = search needs
@@ -58,7 +58,7 @@ returns-2 : tie.Need-returns-2 Inv-loop μ-loop
 returns-2 c =
     let free = c .before .before .before .before in
     let s = start (free .before) in
-    answered-none (now (s .args .file)) _ _ _ _ _ _ (line-long _ _ _ _ _ (is-free free .free) (c .refusal-code .ensures) (rw (c .before .before .wide .ensures) at (c .before .if2 .taken)))
+    answered-none (now (s .args .file)) _ _ _ _ _ (line-long _ _ _ _ _ (is-free free .free) (c .refusal-code .ensures) (rw (c .before .before .wide .ensures) at (c .before .if2 .taken)))
     (λ z. some-ill (sym (c .refusal-code .ensures) ∙ z))
 
 whole-count-requires : tie.Need-whole-count-requires Inv-loop μ-loop
@@ -69,7 +69,7 @@ returns-3 c =
     let few = c .before .before .before in
     let free = few .before .before .before in
     let s = start (free .before) in
-    answered-none (now (s .args .file)) _ _ _ _ _ _ (line-crowded _ _ _ _ _ (is-free free .free) (rw (few .before .wide .ensures) at (few .if2 .left)) (rw (c .before .whole-count .ensures) at (c .if3 .taken)))
+    answered-none (now (s .args .file)) _ _ _ _ _ (line-crowded _ _ _ _ _ (is-free free .free) (rw (few .before .wide .ensures) at (few .if2 .left)) (rw (c .before .whole-count .ensures) at (c .if3 .taken)))
     (λ z. omega arith)
 
 loop-holds : tie.Need-loop-holds Inv-loop μ-loop
@@ -108,7 +108,7 @@ returns-4 : tie.Need-returns-4 Inv-loop μ-loop
 unfolding fed fedLines
 returns-4 c =
     let s = start (c .before .before .before .before .before .before .before .before .before .before .before) in
-    answered-all (now (s .args .file)) _ _ _ _ _ _ refl refl (c .before .before .before .loop .inv) (c .before .before .loop-test .left) (c .keep .ensures)
+    answered-all (now (s .args .file)) _ _ _ _ _ (c .before .before .before .loop .inv) (c .before .before .loop-test .left) (c .keep .ensures)
 
 pub signalbox-feed-spec : {M : Type 1} → statement M
 signalbox-feed-spec =

@@ -38,7 +38,7 @@ ready-requires c κs = search needs
 returns : tie.Need-returns
 returns c =
     let s = start (c .before) in
-    answered-none (now (s .args .file)) _ _ _ _ _ _ (line-stopped _ _ _ _ _ (c .before .ready .ensures .0) (c .if1 .taken)) (c .if1 .taken)
+    answered-none (now (s .args .file)) _ _ _ _ _ (line-stopped _ _ _ _ _ (c .before .ready .ensures .0) (c .if1 .taken)) (c .if1 .taken)
 
 element-copy-out-wide : tie.Need-element-copy-out-wide
 element-copy-out-wide c = search needs
@@ -53,7 +53,7 @@ returns-2 : tie.Need-returns-2
 returns-2 c =
     let free = c .before .before .before .before in
     let s = start (free .before) in
-    answered-none (now (s .args .file)) _ _ _ _ _ _ (line-long _ _ _ _ _ (is-free free .free) (c .refusal-code .ensures) (rw (c .before .before .wide .ensures) at (c .before .if2 .taken)))
+    answered-none (now (s .args .file)) _ _ _ _ _ (line-long _ _ _ _ _ (is-free free .free) (c .refusal-code .ensures) (rw (c .before .before .wide .ensures) at (c .before .if2 .taken)))
     (λ z. some-ill (sym (c .refusal-code .ensures) ∙ z))
 
 waiting-requires : tie.Need-waiting-requires
@@ -65,7 +65,7 @@ returns-3 c =
     let w = c .before .before in
     let s = start (free-of w .before) in
     let n = none-unfinished (now (s .args .unfinished)) (w .waiting .ensures) (c .before .if3 .taken) in
-    answered-all (now (s .args .file)) _ _ _ _ _ _ refl refl (playing-start (is-free (free-of w)) (line-free _ _ _ _ _ (is-free (free-of w) .free) (short w) (omega (arith, n))) n (omega arith))
+    answered-all (now (s .args .file)) _ _ _ _ _ (playing-start (is-free (free-of w)) (line-free _ _ _ _ _ (is-free (free-of w) .free) (short w) (omega (arith, n))) n (omega arith))
     (omega arith) refl
 
 returns-4 : tie.Need-returns-4
@@ -73,7 +73,7 @@ returns-4 c =
     let w = c .before .before in
     let s = start (free-of w .before) in
     let n = one-unfinished (now (s .args .unfinished)) (w .waiting .ensures) (c .before .if3 .left) in
-    answered-none (now (s .args .file)) _ _ _ _ _ _ (line-crowded _ _ _ _ _ (is-free (free-of w) .free) (short w) (omega (arith, n, c .if4 .taken))) (λ z. omega arith)
+    answered-none (now (s .args .file)) _ _ _ _ _ (line-crowded _ _ _ _ _ (is-free (free-of w) .free) (short w) (omega (arith, n, c .if4 .taken))) (λ z. omega arith)
 
 say-requires : tie.Need-say-requires
 say-requires c κs = let roomy = c .before .before .before .before in (readable-image (is-free (free-of (roomy .before .before)) .read), omega (arith, roomy .if4 .left))
@@ -89,7 +89,7 @@ returns-5 c =
     let w = roomy .before .before in
     let s = start (free-of w .before) in
     let n = one-unfinished (now (s .args .unfinished)) (w .waiting .ensures) (roomy .before .if3 .left) in
-    answered-all (now (s .args .file)) _ _ _ _ _ _ refl refl
+    answered-all (now (s .args .file)) _ _ _ _ _
     (playing-turn (playing-start (is-free (free-of w)) (line-free _ _ _ _ _ (is-free (free-of w) .free) (short w) (omega (arith, n, roomy .if4 .left))) n (lines-room (roomy .if4 .left)))
     (omega arith) (unfinished-unknown (now (s .args .unfinished)) (w .waiting .ensures) (roomy .before .if3 .left)) answer-most refl (said .say .ensures .0) (said .say .ensures .1))
     (omega arith) refl

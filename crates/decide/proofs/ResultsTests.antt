@@ -1,0 +1,90 @@
+-- Written by .ci/contracts --write: for each function of src/tests.rt, that any two results that its contract allows are the same.
+use mathlib.Core.List.{List}
+use Prim.Native.Nat.{ℕ}
+use mathlib.Core.Bool.{Bool}
+use mathlib.Core.Path.{_≡_ as _is_, _≡_}
+use Rattle.laws.specs.Once.{equal-once}
+use Rattle.laws.specs.declared.Found.{Found}
+use Rattle.laws.specs.Search.{lowest}
+use Rattle.plan.specs.Layout.{signalAt}
+use Rattle.plan.specs.Image.{planOf}
+use Rattle.state.specs.Cells.{trainsIn, liesIn, signalsIn}
+use Rattle.events.specs.Decide.{hasTrain, isReverse, busy, heldListed, derails, stands, busyTrack, heldPoint, derailedPoint, redAt, wayOut, runsThrough}
+
+pub has-train-once : (cells : List ℕ) (track : ℕ) (r r₂ : Bool)
+    → (r ≡ hasTrain (trainsIn cells) track)
+    → (r₂ ≡ hasTrain (trainsIn cells) track)
+    → r is r₂
+has-train-once cells track r r₂ by-one by-other = equal-once _ _ _ by-one by-other
+
+pub is-reverse-once : (cells : List ℕ) (point : ℕ) (r r₂ : Bool)
+    → (r ≡ isReverse (liesIn cells) point)
+    → (r₂ ≡ isReverse (liesIn cells) point)
+    → r is r₂
+is-reverse-once cells point r r₂ by-one by-other = equal-once _ _ _ by-one by-other
+
+pub busy-once : (clear cells : List ℕ) (track : ℕ) (r r₂ : Bool)
+    → (r ≡ busy clear (trainsIn cells) track)
+    → (r₂ ≡ busy clear (trainsIn cells) track)
+    → r is r₂
+busy-once clear cells track r r₂ by-one by-other = equal-once _ _ _ by-one by-other
+
+pub busy-track-once : (count : ℕ) (clear cells : List ℕ) (r r₂ : Found)
+    → (r ≡ busyTrack count clear (trainsIn cells))
+    → (r₂ ≡ busyTrack count clear (trainsIn cells))
+    → r is r₂
+busy-track-once count clear cells r r₂ by-one by-other = equal-once _ _ _ by-one by-other
+
+pub held-listed-once : (normal reverse holds : List ℕ) (point : ℕ) (r r₂ : Bool)
+    → (r ≡ heldListed normal reverse holds point)
+    → (r₂ ≡ heldListed normal reverse holds point)
+    → r is r₂
+held-listed-once normal reverse holds point r r₂ by-one by-other = equal-once _ _ _ by-one by-other
+
+pub held-point-once : (count : ℕ) (normal reverse holds : List ℕ) (r r₂ : Found)
+    → (r ≡ heldPoint count normal reverse holds)
+    → (r₂ ≡ heldPoint count normal reverse holds)
+    → r is r₂
+held-point-once count normal reverse holds r r₂ by-one by-other = equal-once _ _ _ by-one by-other
+
+pub derails-once : (normal reverse cells : List ℕ) (point : ℕ) (r r₂ : Bool)
+    → (r ≡ derails normal reverse (trainsIn cells) (liesIn cells) point)
+    → (r₂ ≡ derails normal reverse (trainsIn cells) (liesIn cells) point)
+    → r is r₂
+derails-once normal reverse cells point r r₂ by-one by-other = equal-once _ _ _ by-one by-other
+
+pub derailed-point-once : (count : ℕ) (normal reverse cells : List ℕ) (r r₂ : Found)
+    → (r ≡ derailedPoint count normal reverse (trainsIn cells) (liesIn cells))
+    → (r₂ ≡ derailedPoint count normal reverse (trainsIn cells) (liesIn cells))
+    → r is r₂
+derailed-point-once count normal reverse cells r r₂ by-one by-other = equal-once _ _ _ by-one by-other
+
+pub front-of-once : (count : ℕ) (cells : List ℕ) (train : ℕ) (r r₂ : Found)
+    → (r ≡ lowest count (stands (trainsIn cells) train))
+    → (r₂ ≡ lowest count (stands (trainsIn cells) train))
+    → r is r₂
+front-of-once count cells train r r₂ by-one by-other = equal-once _ _ _ by-one by-other
+
+pub signal-at-once : (image : List ℕ) (track : ℕ) (r r₂ : Found)
+    → (r ≡ signalAt (planOf image) track)
+    → (r₂ ≡ signalAt (planOf image) track)
+    → r is r₂
+signal-at-once image track r r₂ by-one by-other = equal-once _ _ _ by-one by-other
+
+pub red-at-once : (image cells : List ℕ) (track : ℕ) (r r₂ : Found)
+    → (r ≡ redAt (planOf image) (signalsIn cells) track)
+    → (r₂ ≡ redAt (planOf image) (signalsIn cells) track)
+    → r is r₂
+red-at-once image cells track r r₂ by-one by-other = equal-once _ _ _ by-one by-other
+
+pub next-track-once : (image cells : List ℕ) (track r r₂ : ℕ)
+    → (r ≡ wayOut (planOf image) (liesIn cells) track)
+    → (r₂ ≡ wayOut (planOf image) (liesIn cells) track)
+    → r is r₂
+next-track-once image cells track r r₂ by-one by-other = equal-once _ _ _ by-one by-other
+
+pub runs-through-once : (image cells : List ℕ) (from to : ℕ) (r r₂ : Bool)
+    → (r ≡ runsThrough (planOf image) (liesIn cells) from to)
+    → (r₂ ≡ runsThrough (planOf image) (liesIn cells) from to)
+    → r is r₂
+runs-through-once image cells from to r r₂ by-one by-other = equal-once _ _ _ by-one by-other

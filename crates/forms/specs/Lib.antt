@@ -1,0 +1,3 @@
+pub mod Forms
+pub mod Rows
+pub mod Shown
