@@ -6,7 +6,7 @@ from names import has, names_in
 
 HEAD = """-- Written by .ci/contracts --write: for each function of {source}, that any two results that its contract allows are the same.
 """
-# how a law of a shape is applied: what stands for each, given the two contracts
+# the types of the code that are numbers to the definitions; and equality by a name of its own, whatever a contract means by `≡`
 NUMBERS = ('u8', 'u16', 'u32', 'u64', 'usize')
 EQUALS = ('mathlib.Core.Path', '_≡_ as _is_')
 
@@ -124,7 +124,7 @@ def same(result):
 
 def applied(file, shape, results, one, two, laws):
     """What one part of the contract fixes, as a type and a term for it."""
-    arrays = f'lent-once _ _ _ _ _ sized sized-other {{}} {{}}'
+    arrays = 'lent-once _ _ _ _ _ sized sized-other {} {}'
     if shape == 'state' or any('stateIn' in result for result in results):
         file.take(module_of(file.room, 'state/proofs/Lent.antt'), 'lent-once')
     if shape == 'state':
@@ -144,7 +144,7 @@ def applied(file, shape, results, one, two, laws):
     return joined([same(result) for result in results]), f'(let told = {told} in ({", ".join(terms)}))'
 
 
-def written(root, functions, ordered, shaped, laws, read_file, rooms):
+def written(root, ordered, shaped, laws, read_file, rooms):
     """The files of laws, by their path; the name of each function's law with its file; and what could not be written."""
     types = {room: set(re.findall(r'\bpub (?:struct|enum) (\w+)', '\n'.join(f.read_text() for f in (root / 'crates' / room / 'src').rglob('*.rt')))) for room in rooms}
     files, cited, faults = {}, {}, []

@@ -1,5 +1,5 @@
--- The demands on a box (docs/DEMANDS.md has them beside the sentences of document 01), stated of any box: what it answers and its next state, for a plan, a state and an event. Each is
--- followed by the theorem, in proofs/, that speaks of it. The page rests on these definitions, and on nothing else:
+-- The demands on a box, stated of any box: what it answers and its next state, for a plan, a state and an event (docs/DEMANDS.md has them beside the
+-- sentences of document 01). Each is followed by the theorem, in proofs/, that speaks of it. The page rests on these definitions, and on nothing else:
 --   plan/specs/Limits.antt       the numbers of document 01: how many of each a plan may have
 --   plan/specs/Records.antt      Plan; plan/specs/Kinds.antt: Plain, Exit, Forks, Legged, isPoint, out, leg, uses, what a track is
 --   plan/specs/Layout.antt       Leads, Home, StandsAt; plan/specs/Routes.antt: trackAt, pointsOf, Listed, Released, Releases, what a route says

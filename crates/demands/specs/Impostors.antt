@@ -1,5 +1,5 @@
 -- The impostors of document 01, "No loose ends": boxes that would pass for one, and the demand that each of them fails. Ours, beside the document's: boxes
--- deaf to events or states, and one that is right but in one place.
+-- deaf to events or states, one that is right but in one place, and one for each part of demand 3 and for Agreement, so that none of them is idle.
 use mathlib.Core.Path.{_≡_}
 use mathlib.Core.Logic.{_≢_, _⊎_}
 use mathlib.Core.List.{List, [], _∷_}

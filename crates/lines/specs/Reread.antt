@@ -1,4 +1,5 @@
--- What can be read back from a printed line (of a code: codes/specs/Decoding.antt): the numbers that stand in it, and so what the line shows. Proved in proofs/Reread.antt.
+-- What can be read back from a printed line: the numbers that stand in it, and so what the line shows. Proved in proofs/Reread.antt. What can be read from a
+-- code stands in codes/specs/Decoding.antt.
 use mathlib.Core.Path.{_≡_}
 use mathlib.Core.Bool.{Bool, not, cond, _&&_}
 use mathlib.Core.List.{List, [], _∷_, _++_}
