@@ -362,3 +362,339 @@ def rows(text):
 
 def spans(cell):
     return re.findall(r'`([^`]+)`', cell)
+
+
+# What a host in C sees of the box, for its header: every constant, the printed line of each number, every function and struct, each with the place
+# in the sources that gives it.
+ANSWERS, LINES = 'events/specs/Answers.antt', 'lines/specs/Lines.antt'
+# the definitions of numbers by the cases of an enum: how the header's names begin, and where their values and the words of their lines are defined
+NUMBERED = (
+    ('FORM_', 'reading/specs/Reading.antt', 'formNumber', None, None),
+    ('REFUSED_', ANSWERS, 'refusalNumber', 'refusalValues', 'refusalWords'),
+    ('ACCIDENT_', ANSWERS, 'harmNumber', 'harmValues', 'harmWords'),
+    ('', ANSWERS, 'deedNumber', 'deedValues', 'deedWords'),
+)
+# sizes by another name in the header, or by two; those of the image, which no host sees; and the program's own
+RENAMED = {'IMAGE': ('LARGEST_PLAN',), 'TRACKS': ('TRACKS', 'HOLDS')}
+IMAGES = ('TRACK_SIZE', 'RELEASE_SIZE', 'ROUTE_SIZE', 'ENTRY_SIZE', 'PATH_AT', 'CLEAR_AT', 'NORMAL_AT', 'REVERSE_AT', 'RELEASES_AT', 'ENTRY_CLEAR_AT',
+          'TRACKS_AT', 'SIGNALS_AT', 'ROUTES_AT', 'ENTRIES_AT')
+FACED = tuple(file for file in SIZES if not file.startswith('bench/'))
+SHOWN = {'noTrain': 'NO_TRAIN', 'normalLie': 'NORMAL', 'reverseLie': 'REVERSE', 'red': 'RED'}
+TYPES = {'u8': 'uint8_t', 'u64': 'uint64_t', 'usize': 'size_t', '': 'void'}
+
+
+def capitals(name):
+    """`EndsEarly` and `endsEarly` as ENDS_EARLY."""
+    return re.sub(r'(?<=[a-z])(?=[A-Z])', '_', name).upper()
+
+
+def place_of(root, file, pattern):
+    """Where a pattern is found in a file of the crates, as the match and `file:line`. It must be found."""
+    text = (Path(root) / 'crates' / file).read_text()
+    m = re.search(pattern, text, re.M)
+    if not m:
+        raise ValueError(f'crates/{file} has nothing like {pattern}')
+    return m, f'crates/{file}:{text.count(chr(10), 0, m.start()) + 1}'
+
+
+def equations(root, file, name):
+    """What a definition by cases gives: for each case the other side, and its place."""
+    lines = (Path(root) / 'crates' / file).read_text().split('\n')
+    found = {}
+    for at, line in enumerate(lines, 1):
+        m = re.fullmatch(rf'{name} (?:(\w+)|\((\w+)(?: \w+)+\)) = (.*)', line)
+        if m:
+            found[m[1] or m[2]] = (m[3], f'crates/{file}:{at}')
+    if not found:
+        raise ValueError(f'crates/{file} has no equations of {name}')
+    return found
+
+
+def given_for(root, file, name, case):
+    """What a definition by cases gives for one of them."""
+    found = equations(root, file, name)
+    if case not in found:
+        raise ValueError(f'crates/{file} has no equation of {name} for {case}')
+    return found[case][0]
+
+
+def strings(text):
+    return re.findall(r'"([^"]*)"', text)
+
+
+def wording(words_, numbers):
+    """A printed line: words and numbers in turn."""
+    if len(words_) != len(numbers):
+        raise ValueError(f'{words_} and {numbers} are no line')
+    return ''.join(word + str(number) for word, number in zip(words_, numbers))
+
+
+def face_codes(root):
+    """Every number that a code may have, by the name of its constant in the header: number, printed line, place."""
+    found = {}
+    for lead, file, number, values, said in NUMBERED:
+        for case, (value, place) in equations(root, file, number).items():
+            if values:
+                heads = {'REFUSED_': 'Refused', 'ACCIDENT_': 'Accident', '': 'Done'}
+                said_ = strings(given_for(root, LINES, 'answerWords', heads[lead])) + strings(given_for(root, LINES, said, case))
+                named_ = [f'<{name}>' for name in re.findall(r'\w+', given_for(root, file, values, case))]
+                line = wording(said_, [int(value)] * bool(lead) + named_)
+            else:
+                line = wording(strings(place_of(root, LINES, r'^formLine form = .*')[0][0]), [int(value), '<offset>'])
+            found[lead + capitals(case)] = (int(value), line, place)
+    room, place = place_of(root, 'codes/specs/Codes.antt', r'^noRoom = (\d+)$')
+    found['NO_ROOM'] = (int(room[1]), None, place)
+    accepted, place = place_of(root, 'codes/specs/Codes.antt', r'^verdictCode v = packed \(\((\d+) \+ ruleNumber v\)')
+    found['ACCEPTED'] = (int(accepted[1]), *strings(given_for(root, LINES, 'verdictLine', 'Accepted')), place)
+    return found
+
+
+def face_rule(root):
+    """The line of a broken rule."""
+    return wording(strings(given_for(root, LINES, 'verdictLine', 'Broken')), ['<rule>', '<row>'])
+
+
+def face_events(root):
+    """The bytes of the four events by name, each with what its other bytes are."""
+    file = 'events/specs/Events.antt'
+    definition, place = place_of(root, file, r'^eventOf kind first second =\n((?:    .*\n)+)')
+    bytes_ = {case: int(byte) for byte, case in re.findall(r'eqb kind (\d+)\) \((\w+)', definition[1])}
+    told = {name.capitalize(): (int(byte), f'{first}, {second}')
+            for byte, name, first, second in re.findall(r'(\d+) (\w+) \((\w+), (\w+)\)', place_of(root, file, r'^-- 1 request .*')[0][0])}
+    enum = place_of(root, 'events/src/lib.rt', r'^pub enum Event \{((?:.|\n)*?)^\}')[0][1]
+    cases = [case for case in re.findall(r'^    ([A-Z]\w*)', enum, re.M) if case != 'Unknown']
+    if sorted(cases) != sorted(bytes_) or {case: told[case][0] for case in told} != bytes_:
+        raise ValueError(f'crates/{file}: the bytes of events are {bytes_}, in words {told}, and the events are {cases}')
+    return {capitals(case): (bytes_[case], told[case][1], place) for case in bytes_}
+
+
+def face_numbers(root):
+    """Every constant of the header by its name: its number, what its comment must begin with or None, and its place in the sources."""
+    found = {}
+    for name, (_, value) in constants(root, FACED).items():
+        if name not in IMAGES:
+            place = next(place_of(root, file, rf'\bconst {name}\b')[1] for file in FACED if re.search(rf'\bconst {name}\b', (Path(root) / 'crates' / file).read_text()))
+            for other in RENAMED.get(name, (name,)):
+                found[other] = (value, None, place)
+    for name, value in defined(root, 'state/specs/State.antt').items():
+        found[SHOWN.get(name, capitals(name))] = (value, None, place_of(root, 'state/specs/State.antt', rf'^{name} = ')[1])
+    parameters, place = place_of(root, 'events/src/lib.rt', r'\bfn event_of\(([^)]*)\)')
+    found['EVENT'] = (len(parts(parameters[1], ',')), None, place)
+    rules, place = place_of(root, 'rules/specs/Verdict.antt', r'^rules p =\n((?:    .*\n)+)')
+    found['RULES'] = (len(re.findall(r'\bover\b', rules[1])), None, place)
+    for name, entry in [*face_events(root).items(), *face_codes(root).items()]:
+        if name in found:
+            raise ValueError(f'{name} is two numbers: {found[name]} and {entry}')
+        found[name] = entry
+    return found
+
+
+def c_type(type_):
+    if type_ not in TYPES:
+        raise ValueError(f"the type '{type_}' at the public face is not read here")
+    return TYPES[type_]
+
+
+def c_parameters(parameter):
+    """A parameter as those of C that it passes as: a slice as a pointer and a length, a room where it is to be written; an array as a pointer."""
+    m = re.fullmatch(r'(\w+)\s*:\s*&\s*(mut\s+)?\[\s*(\w+)\s*(?:;\s*(\w+)\s*)?\]', parameter)
+    if not m:
+        raise ValueError(f"the parameter '{words(parameter)}' is not read here")
+    name, written, type_, length = m.groups()
+    lead = '' if written else 'const '
+    if length:
+        return [f'{lead}{c_type(type_)} {name}[SIGNALBOX_{RENAMED.get(length, (length,))[-1]}]']
+    return [f'{lead}{c_type(type_)} *{name}', 'size_t room' if written else f'size_t {name}_length']
+
+
+def face_functions(root):
+    """The exported functions as they are declared in C, by name, each with its place; and the structs: what a call hands back, and the state, which is
+    all that the fresh state is lent."""
+    root, functions, structs = Path(root), {}, {}
+    for file in sorted(root.glob('crates/*/src/**/*.rt')):
+        text = file.read_text()
+        if not re.search(r'\bextern\b', blanked(text)):
+            continue
+        inner = file.relative_to(root / 'crates').as_posix()
+        for f in read_file(root, file)[0]:
+            if not re.search(rf'#\[no_mangle\]\s*pub extern "C" fn {f.path.split("::")[-1]}\b', text):
+                continue
+            name = f.path.split('::')[-1]
+            place = place_of(root, inner, rf'\bfn {name}\b')[1]
+            result = TYPES.get(f.type)
+            if result is None:
+                result = 'signalbox_' + f.type.lower()
+                fields, where = place_of(root, inner, rf'^#\[repr\(C\)\]\npub struct {f.type} \{{([^}}]*)\}}')
+                structs[result] = ([f'{c_type(type_)} {field}' for field, type_ in re.findall(r'pub (\w+): (\w+),', fields[1])], where)
+            parameters = [text_ for parameter in f.parameters for text_ in c_parameters(words(parameter))]
+            functions[name] = (result, parameters, place)
+            if name == 'signalbox_fresh':
+                structs['signalbox_state'] = (parameters, place)
+    return functions, structs
+
+
+# What docs/PLAN.md is held to: the numbers of the definitions, by the names that they have there; the bytes of a plan; the examples of a page.
+
+def found_in(root, file, pattern):
+    """What a pattern finds in a file of the crates, where it must find something."""
+    m = re.search(pattern, (Path(root) / 'crates' / file).read_text(), re.M)
+    if not m:
+        raise ValueError(f'crates/{file} has nothing like {pattern}')
+    return m[1]
+
+
+def forms(root):
+    """The forms by name, each with its number."""
+    text = (Path(root) / 'crates/forms/specs/Forms.antt').read_text()
+    return {name: int(number) for name, number in re.findall(r'^    (\w+) : \(at : ℕ\)(?:(?!^    \w+ :)[^-])*?→ Formed (\d+) at$', text, re.M)}
+
+
+def counts_due(root):
+    """The counts of the plan file by the name of what is counted, each with its least and its most, as the table of forms has them: those of the
+    sections, and those of a route's lists."""
+    blocks_of = (found_in(root, 'forms/specs/Forms.antt', rf'^{name}\b[^:\n]*=\n((?:.+\n)+)') for name in ('planFile', 'routeRow'))
+    return [{name: (int(least), int(most)) for least, most, name in re.findall(r'\bcount(?:ed)? (\d+) (\d+).* λ (\w+)\.$', block, re.M)} for block in blocks_of]
+
+
+def unused_numbers(root):
+    """The kinds of track by name, each with how many of a track's numbers it leaves unused."""
+    chain = found_in(root, 'plan/specs/Kinds.antt', r'^uses kind = (.*)$')
+    used = {name: int(n) for name, n in re.findall(r'eqb kind (\w+)\) (\d+)', chain)}
+    numbers, last = constants(root, LIMITS)['TRACK_SIZE'][1] - 1, int(re.search(r'(\d+)\)*$', chain)[1])
+    return {name: numbers - used.get(name, last) for name in defined(root, 'plan/specs/Kinds.antt') if name != 'kinds'}
+
+
+def plan_rules(root):
+    """The plan rules by name in their order, each with its number and what its rows are."""
+    text = (Path(root) / 'crates/rules/specs/Verdict.antt').read_text()
+    listed = re.findall(r'over \(length \(p \.(\w+)\)\) \(\w+ p\) \((\w+) p\)', text)
+    return {name: (number, re.sub(r's$', '', row.replace('ies', 'y'))) for number, (row, name) in enumerate(listed, 1)}
+
+
+def events(root):
+    """The events by name, each with its first byte; how many bytes an event has; what an unused one is."""
+    file = 'events/specs/Events.antt'
+    first = {name: int(byte) for byte, name in re.findall(r'\(eqb kind (\d+)\) \((\w+)', (Path(root) / 'crates' / file).read_text())}
+    return first, found_in(root, file, r'^unfoldable pub eventOf : (.*) → Event$').count('ℕ'), int(found_in(root, file, r'eqb second (\d+)'))
+
+
+def answers(root):
+    """The refusals and accidents by name, each with its number; and for each kind of event the numbers of its tests in their order."""
+    text = (Path(root) / 'crates/events/specs/Answers.antt').read_text()
+    numbers = {name: int(number) for name, number in re.findall(r'^(?:refusal|harm)Number \(?(\w+)[^=\n]*= (\d+)$', text, re.M)}
+    meaning = (Path(root) / 'crates/events/specs/Meaning.antt').read_text()
+    tables = re.findall(r'^  (\w+)Table [^:\n]*=\n((?:.+\n)+)', meaning, re.M)
+    return numbers, {event: [numbers[name] for name in re.findall(r'(?:Refused|Accident) \(?(\w+)', table)] for event, table in tables if event != 'event'}
+
+
+def line_shapes(root):
+    """The lines that can be printed, each as a pattern."""
+    text = (Path(root) / 'crates/lines/specs/Lines.antt').read_text()
+    numbers, _ = answers(root)
+    said = {name: re.findall(r'"([^"]*)"', rest) for name, rest in re.findall(r'^\w+(?:Words|Line) \(?(\w+)[^=\n]*=(.*)$', text, re.M)}
+    shapes = [''.join(said['Accepted'])]
+    for name, words_of in said.items():
+        if name in numbers:
+            harm = re.search(rf'^harmWords \(?{name}\b', text, re.M)
+            shapes.append(f'{said["Accident" if harm else "Refused"][0]}{numbers[name]}' + ''.join(word + r'\d+' for word in words_of))
+        elif words_of and name not in ('Accepted', 'Accident', 'Refused'):
+            shapes.append(''.join(word + r'\d+' for word in words_of))
+    return shapes
+
+
+def document_numbers(root):
+    """The numbers that the definitions give to what they name; and beside these what is made of them, and the words that go with them."""
+    rules, (first, size, unused), (numbers, tests), (sections, lists) = plan_rules(root), events(root), answers(root), counts_due(root)
+    limits = {name: value for name, (plain, value) in constants(root, ('plan/src/limits.rt',)).items() if plain.isdigit() and not name.endswith('_AT')}
+    named = {**limits, **defined(root, 'plan/specs/Kinds.antt'), **forms(root), **{name: number for name, (number, _) in rules.items()}, **first, **numbers}
+    return named, {
+        'IMAGE': sizes(root)['IMAGE'], 'BYTE': 255, 'RULES': len(rules), 'EVENT': size, 'UNUSED': unused, 'SECTIONS': len(sections), 'LISTS': len(lists),
+        'noTrain': defined(root, 'state/specs/State.antt')['noTrain'],
+        'least': {name: least for name, (least, _) in {**lists, **sections}.items()},
+        'row': {name: row for name, (_, row) in rules.items()},
+        'order': {name: ', '.join(map(str, order)) for name, order in tests.items()},
+        'unused': {kind: ', '.join(n * [str(unused)]) for kind, n in unused_numbers(root).items()},
+        'deeds': re.findall(r'^deedWords \(\w+[^=\n]*= "(\w+) "', (Path(root) / 'crates/lines/specs/Lines.antt').read_text(), re.M),
+    }
+
+
+def plan_rows(root, file):
+    """The bytes of a plan row after row, each with its offset and what it says, numbers in the order of the bytes; and where the row of a track,
+    signal, route or entry starts, by its name."""
+    kinds = defined(root, 'plan/specs/Kinds.antt')
+    says = {kinds['plainKind']: 'plain, leads to track {1}', kinds['facingKind']: 'a facing point; its normal way out is track {1}, its reverse way out track {2}',
+            kinds['trailingKind']: 'a trailing point, leads to track {1}; its normal leg is track {2}, its reverse leg track {3}', kinds['exitKind']: 'an exit'}
+    found, starts, at = [], {}, 0
+
+    def take(n, text):
+        nonlocal at
+        row = file[at:at + n]
+        if len(row) < n:
+            raise ValueError(f'the plan ends at {len(file)}, and more is due')
+        found.append((at, list(row), text(row)))
+        at += n
+        return row
+
+    def several(n, one):
+        return f'{n} {one}' if n == 1 else f'{n} {one[:-1]}ies' if one.endswith('y') else f'{n} {one}s'
+
+    def section(one, each):
+        count = take(1, lambda row: several(row[0], one))[0]
+        for i in range(count):
+            starts[f'{one} {i}'] = at
+            each(f'{one} {i}')
+
+    def listed(name, of, size=1):
+        say = lambda row: f'{name}: none' if not row[0] else f'{name}, {several(row[0], of)}: ' + ', '.join(
+            f'{row[i]}' if size == 1 else f'on arrival at track {row[i]} point {row[i + 1]} is given back' for i in range(1, len(row), size))
+        take(1 + size * (file[at] if at < len(file) else 0), say)
+
+    def route(name):
+        take(1, lambda row: f'{name}: starts at signal {row[0]}')
+        for words_of in (('path', 'track'), ('clear', 'track'), ('normal', 'point'), ('reverse', 'point'), ('releases', 'pair', 2)):
+            listed(*words_of)
+
+    def entry(name):
+        take(1, lambda row: f'{name}: at track {row[0]}')
+        listed('clear', 'track')
+
+    section('track', lambda name: take(4, lambda row: f'{name}: {says.get(row[0], "of no kind").format(*row)}'))
+    section('signal', lambda name: take(1, lambda row: f'{name}: its home is track {row[0]}'))
+    section('route', route)
+    section('entry', entry)
+    if at != len(file):
+        raise ValueError(f'bytes are left over from {at} on')
+    return found, starts
+
+
+def merging(root, file):
+    """What a drawing of two lines that merge has, line by line: what comes in at the normal leg; the point and where it leads; the reverse leg."""
+    _, at = plan_rows(root, file)
+    trailing = defined(root, 'plan/specs/Kinds.antt')['trailingKind']
+    point = next(name for name, i in at.items() if name.startswith('track') and file[i] == trailing)
+    _, behind, *legs = file[at[point]:at[point] + 4]
+
+    def here(one, track):
+        return next((name for name, i in at.items() if name.startswith(one) and file[i] == track), f'no {one}')
+
+    lines = [[here('entry', u), f'track {u}', here('signal', u), leg] for u, leg in zip(legs, ('normal leg', 'reverse leg'))]
+    return [lines[0], [point, 'trailing point', f'track {behind}', 'exit'], lines[1]]
+
+
+def blocks(text, sort):
+    """The fenced blocks of a sort in a page, each with the number of its first line and its lines."""
+    return [(text.count('\n', 0, m.start(1)) + 1, m[1].split('\n')[:-1]) for m in re.finditer(rf'^```{sort}\n(.*?)^```$', text, re.M | re.S)]
+
+
+def examples(text):
+    """The commands that a page shows, each with its line number and the lines that are to come."""
+    found = []
+    for first, lines in blocks(text, 'console'):
+        for at, line in enumerate(lines, first):
+            if line.startswith('$ '):
+                found.append((at, line[2:], []))
+            elif at == first:
+                raise ValueError(f'{at}: the block does not begin with a command')
+            else:
+                found[-1][2].append(line)
+    return found

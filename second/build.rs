@@ -3,7 +3,14 @@
 fn main() {
     if std::env::var_os("CARGO_FEATURE_BOXED").is_some() {
         let here = std::env::var("CARGO_MANIFEST_DIR").expect("cargo says where the package is");
-        println!("cargo:rustc-link-search=native={here}/../target/staticlib");
-        println!("cargo:rerun-if-changed={here}/../target/staticlib/libsignalbox.a");
+        let folder = format!("{here}/../target/staticlib");
+        let library = format!("{folder}/libsignalbox.a");
+        println!("cargo:rustc-link-search=native={folder}");
+        println!("cargo:rerun-if-changed={library}");
+        if !std::path::Path::new(&library).exists() {
+            // Kinder than what the linker says.
+            let how = "`rt staticlib signalbox` in the top folder writes it";
+            println!("cargo::error=there is no {library}: {how}");
+        }
     }
 }

@@ -7,6 +7,7 @@ pub mod book;
 #[cfg(feature = "boxed")]
 pub mod boxed;
 pub mod compare;
+pub mod compared;
 pub mod definitions;
 pub mod document;
 pub mod forms;
@@ -26,4 +27,5 @@ pub mod sessions;
 pub mod singles;
 pub mod subject;
 pub mod told;
+pub mod words;
 pub mod writing;

@@ -2,23 +2,16 @@
 
 use second::book::MODEL;
 use second::compare::driver::{self, Search};
+use second::compared::{of_seed, CASES, FOLDERS, IS_LINKED, TIMES};
+use second::definitions::folders;
+use second::program::child::Executable;
 use second::subject::{Kept, Lent, Subject, EVENT, LINE};
+use second::words::{self, Command, USAGE};
 use second::{bench, definitions, limits, mutants, program, sessions, singles};
 use std::io::{self, Read, Write};
+use std::panic::{self, PanicHookInfo};
 use std::path::Path;
-use std::process::ExitCode;
-
-const USAGE: &str = "usage: second [--long] [--seed N] [--trace]  compare the box with the model
-       second --case SEED                  compare one case again
-       second --mutants [--seed N]         catch every mutant
-       second --program PATH [--seed N]    compare a program with the model
-       second --readable DIR [--seed N]    catch every wrong definition in the session folders
-       second --list DIR                   print the list of wrong definitions, definitions.txt
-       second --steps                      print the text of the single steps, steps.txt
-       second --bench                      print times
-       second --limits                     print the sizes that it goes by
-       second sessions DIR                 write the session folders
-       second run                          read plan.bin and events like the program itself";
+use std::process::{self, ExitCode};
 
 /// What is held against the model: the box where it is linked.
 #[cfg(feature = "boxed")]
@@ -34,123 +27,138 @@ fn subject() -> &'static dyn Subject {
 
 /// The subject, if it is another one than the model.
 fn other_subject() -> Option<&'static dyn Subject> {
-    cfg!(feature = "boxed").then(subject)
+    IS_LINKED.then(subject)
 }
 
 fn main() -> ExitCode {
-    let arguments: Vec<String> = std::env::args().skip(1).collect();
+    let usual = panic::take_hook();
+    panic::set_hook(Box::new(move |panic| {
+        end_where_nothing_can_be_said(panic);
+        usual(panic);
+    }));
+    let arguments = std::env::args_os().skip(1);
+    // A word that is no text is not understood, or names nothing that is there.
+    let arguments: Vec<String> = arguments
+        .map(|word| word.to_string_lossy().into_owned())
+        .collect();
     let words: Vec<&str> = arguments.iter().map(String::as_str).collect();
-    match carry_out(&words) {
-        Some(true) => ExitCode::SUCCESS,
-        Some(false) => ExitCode::FAILURE,
-        None => {
-            eprintln!("{USAGE}");
+    match words::understood(&words).map(carry_out) {
+        Ok(Ok(true)) => ExitCode::SUCCESS,
+        Ok(Ok(false)) => ExitCode::FAILURE,
+        Ok(Err(sentence)) => {
+            eprintln!("second: {sentence}");
+            ExitCode::FAILURE
+        }
+        Err(sentence) => {
+            eprintln!("second: {sentence}\n`second --help` shows what there is");
             ExitCode::from(2)
         }
     }
 }
 
-/// True if all went well, nothing if the words make no sense.
-fn carry_out(words: &[&str]) -> Option<bool> {
-    match *words {
-        ["--case", seed] => Some(driver::repeat(subject(), seed.parse().ok()?)),
-        ["--mutants", ref options @ ..] => Some(mutants::catch_all(search(options)?.seed)),
-        ["--program", path, ref options @ ..] => {
-            let seed = search(options)?.seed;
-            Some(said(seed, program::compare(Path::new(path), seed)))
-        }
-        ["--readable", directory, ref options @ ..] => {
-            let seed = search(options)?.seed;
-            Some(said(seed, readable(Path::new(directory), seed)))
-        }
-        ["--list", directory] => Some(print_list(Path::new(directory))),
-        ["--steps"] => {
-            print!("{}", singles::told());
-            Some(true)
-        }
-        ["--bench"] => {
+/// `println!` panics where its line can't be written. That is no mistake in this program: whoever
+/// reads may have read enough, as `head` does, and for anything else a sentence will do.
+fn end_where_nothing_can_be_said(panic: &PanicHookInfo) {
+    let words = panic.payload_as_str().unwrap_or_default();
+    let Some(lost) = words.strip_prefix("failed printing to ") else {
+        return;
+    };
+    if !lost.contains("Broken pipe") {
+        // If this can't be said either, the status must do.
+        let _ = writeln!(io::stderr(), "second: {lost}");
+    }
+    process::exit(1);
+}
+
+/// True if all went well; a sentence if it could not be done.
+fn carry_out(command: Command) -> Result<bool, String> {
+    match command {
+        Command::Help => println!("{USAGE}"),
+        Command::Compare(search) => return Ok(compare(&search)),
+        Command::Case(seed) => return Ok(repeat(seed)),
+        Command::Mutants(seed) => return Ok(mutants::catch_all(seed)),
+        Command::Program(path, seed) => return compare_program(path, seed),
+        Command::Readable(directory, seed) => return readable(directory, seed),
+        Command::List(directory) => print_list(directory)?,
+        Command::Steps => print!("{}", singles::told()),
+        Command::Bench => {
+            TIMES.begin();
             bench::bench(other_subject());
-            Some(true)
+            TIMES.end("done");
         }
-        ["--limits"] => {
+        Command::Limits => {
             for (name, size) in limits::all() {
                 println!("{name} {size}");
             }
-            Some(true)
         }
-        ["sessions", directory] => Some(write_sessions(Path::new(directory))),
-        ["run"] => Some(run().is_ok()),
-        _ => {
-            let search = search(words)?;
-            Some(said(search.seed, driver::compare(subject(), &search)))
-        }
+        Command::Sessions(directory) => write_sessions(directory)?,
+        // Its status is 0 all the same, like that of the program itself.
+        Command::Run => run().unwrap_or_else(|error| eprintln!("second: run: {error}")),
     }
+    Ok(true)
 }
 
-/// The search that the options ask for.
-fn search(mut options: &[&str]) -> Option<Search> {
-    let mut search = Search::default();
-    loop {
-        options = match *options {
-            [] => return Some(search),
-            ["--long", ref rest @ ..] => {
-                search.extent = driver::LONG;
-                rest
-            }
-            ["--seed", seed, ref rest @ ..] => {
-                search.seed = seed.parse().ok()?;
-                rest
-            }
-            ["--trace", ref rest @ ..] => {
-                search.trace = true;
-                rest
-            }
-            _ => return None,
-        };
-    }
+fn compare(search: &Search) -> bool {
+    CASES.begin();
+    let is_good = driver::compare(subject(), search);
+    CASES.end(&of_seed(search.seed, is_good));
+    is_good
 }
 
-/// Says how a comparison went.
-fn said(seed: u64, good: bool) -> bool {
-    let words = if good { "good" } else { "NOT good" };
-    println!("seed {seed}: {words}");
-    good
+/// Compares the one case of a seed that was printed before.
+fn repeat(seed: u64) -> bool {
+    CASES.begin();
+    let is_good = driver::repeat(subject(), seed);
+    let words = if is_good { "no mismatch" } else { "a mismatch" };
+    CASES.end(&format!("case {seed}: {words}"));
+    is_good
 }
 
-fn readable(directory: &Path, seed: u64) -> bool {
-    definitions::catch_all(directory, seed, other_subject()).unwrap_or_else(|error| {
-        eprintln!("{}: {error}", directory.display());
-        false
-    })
+/// The box is no part of this, linked or not.
+fn compare_program(path: &Path, seed: u64) -> Result<bool, String> {
+    let program = Executable::new(path)?;
+    println!("compared: the program {} with the model", path.display());
+    let is_good = program::compare(&program, seed);
+    println!("{}", of_seed(seed, is_good));
+    Ok(is_good)
 }
 
-fn print_list(directory: &Path) -> bool {
-    match definitions::folders::in_full(directory) {
-        Ok(folders) => print!("{}", definitions::list::list(&folders)),
-        Err(error) => {
-            eprintln!("{}: {error}", directory.display());
-            return false;
-        }
-    }
-    true
+fn readable(directory: &Path, seed: u64) -> Result<bool, String> {
+    let folders = folders::all(directory).map_err(|error| unread(directory, &error))?;
+    FOLDERS.begin();
+    let is_good = definitions::catch_all(folders, seed, other_subject());
+    FOLDERS.end(&of_seed(seed, is_good));
+    Ok(is_good)
 }
 
-fn write_sessions(directory: &Path) -> bool {
-    match sessions::write_all(directory) {
-        Ok(count) => println!("{count} sessions"),
-        Err(error) => {
-            eprintln!("{}: {error}", directory.display());
-            return false;
-        }
-    }
-    true
+fn print_list(directory: &Path) -> Result<(), String> {
+    let folders = folders::in_full(directory).map_err(|error| unread(directory, &error))?;
+    print!("{}", definitions::list::list(&folders));
+    Ok(())
+}
+
+fn unread(directory: &Path, error: &io::Error) -> String {
+    let directory = directory.display();
+    format!("the session folders of '{directory}' can't be read: {error}")
+}
+
+fn write_sessions(directory: &Path) -> Result<(), String> {
+    let count = sessions::write_all(directory).map_err(|error| {
+        let directory = directory.display();
+        format!("the session folders can't be written to '{directory}': {error}")
+    })?;
+    println!("{count} sessions");
+    Ok(())
 }
 
 /// The program as the document describes it: what has come of the input is answered before more
 /// of it is read.
 fn run() -> io::Result<()> {
-    // A file that can't be opened counts as empty.
-    let plan = std::fs::read("plan.bin").unwrap_or_default();
+    // A file that can't be opened counts as empty, and whoever looks is told so.
+    let plan = std::fs::read("plan.bin").unwrap_or_else(|error| {
+        eprintln!("second: plan.bin: {error}");
+        vec![]
+    });
     let mut ready = MODEL.prepare(&plan);
     let mut kept = Kept::fresh();
     print(ready.open(LINE))?;

@@ -119,3 +119,45 @@ fn status_and_output_must_both_be_right() {
         assert!(sentence.starts_with("expected line"), "{sentence}");
     }
 }
+
+#[test]
+fn nothing_is_told_where_nothing_is_wrong() {
+    let script = format!("echo all right >&2; exec {SECOND} run");
+    let session = session_of(Manner::LockStep);
+    let sentence = said("telling", &script, &session).expect("it tells something");
+    let words = "on standard error it tells \"all right\\n\"";
+    assert_eq!(sentence, format!("standard error must be empty; {words}"));
+    // What else is wrong comes first.
+    let failing = said("told", "echo all right >&2; exit 3", &session);
+    let sentence = failing.expect("its status is not 0");
+    assert!(sentence.contains("exit status: 3"), "{sentence}");
+    assert!(sentence.ends_with(words), "{sentence}");
+}
+
+#[test]
+fn a_plan_that_is_not_there_is_told_in_one_line() {
+    let without = sessions::all(1).filter(|session| session.story.plan.is_none());
+    let without: Vec<Session> = without.collect();
+    assert_eq!(without.len(), 2);
+    for session in &without {
+        let told = |script: &str| said("no-plan", script, session);
+        assert_eq!(told(&format!("exec {SECOND} run")), None);
+        for before in ["", "echo no plan >&2; ", "echo plan.bin >&2; echo >&2; "] {
+            let said = told(&format!("{before}exec {SECOND} run 2> /dev/null"));
+            let sentence = said.expect("it must tell of plan.bin alone");
+            let due = "standard error must have one line that names plan.bin";
+            assert!(sentence.starts_with(due), "{before}: {sentence}");
+        }
+    }
+}
+
+#[test]
+fn a_program_that_ends_late_does_not_hang_the_comparison() {
+    let start = Instant::now();
+    // What is left of it keeps standard error open, which nobody waits for.
+    let script = format!("{SECOND} run; exec >&-; sleep 20");
+    let session = session_of(Manner::Freely);
+    let sentence = said("lingering", &script, &session).expect("it does not end");
+    assert_eq!(sentence, "it has closed its output and does not end");
+    assert!(start.elapsed() < Duration::from_secs(15));
+}

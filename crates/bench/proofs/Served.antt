@@ -1,5 +1,6 @@
 -- A turn serves, and turns one after the other do. Assumes nothing.
 use mathlib.Core.Path.{_≡_, refl, sym, ap, _∙_, subst}
+use mathlib.Core.Bool.{Bool, true}
 use mathlib.Core.List.{List, [], _∷_, _++_, append-nil}
 use Prim.Native.Nat.{ℕ, _+_, _-_, _*_, _/_, _^_, _<_, _≤_}
 use native.Mathlib.Omega.{arith}
@@ -42,8 +43,9 @@ module _ (file bytes : List ℕ) {σ : State} {unfinished out : List ℕ} {r : O
   done : r .code ≡ 0
   done = f .played .code ∙ line-free (parse file) σ (due b bytes) (length out) unfinished (s .free) (short unfinished (s .few)) fits
 
-  pub turned : {n : ℕ} {bytes′ : List ℕ} → take n bytes′ ≡ bytes → n ≤ length bytes′ → Turned (parse file) σ unfinished out (record { read = n; written = r .written }) τ unfinished′ bytes′ out′
-  turned e m = record { some = m; feeds = rw e (subst (λ c. Feeds (parse file) σ unfinished bytes out (record { code = c; written = r .written }) τ unfinished′ out′) done f) }
+  pub turned : {n : ℕ} {failed : Bool} {bytes′ : List ℕ} → take n bytes′ ≡ bytes → n ≤ length bytes′ → (failed ≡ true → n ≡ 0)
+      → Turned (parse file) σ unfinished out (record { read = n; written = r .written; failed = failed }) τ unfinished′ bytes′ out′
+  turned e m z = record { some = m; idle = z; feeds = rw e (subst (λ c. Feeds (parse file) σ unfinished bytes out (record { code = c; written = r .written }) τ unfinished′ out′) done f) }
 
 wrote-within : {bytes before after : List ℕ} {at next : ℕ} → Wrote bytes before at after next → next ≤ length after
 wrote-within {bytes} {before} {after} {at} w =
@@ -122,22 +124,19 @@ serving-start g σ unfinished s h = record { on = record { bytes = []; many = re
 
 module _ (file : List ℕ) {σ : State} {unfinished : List ℕ} {total turns : ℕ} {τ : State} {unfinished′ : List ℕ} (l : Serving (parse file) σ unfinished total turns τ unfinished′)
     {lines : List ℕ} {r : Exchange} {υ : State} {unfinished″ bytes′ lines′ : List ℕ} (t : Turned (parse file) τ unfinished′ lines r υ unfinished″ bytes′ lines′) where
-  after : {n : ℕ} → n ≡ total + r .read → ServedOn (parse file) σ unfinished n υ unfinished″
-  after e = record {
+  pub serving-on : ServedOn (parse file) σ unfinished (total + r .read) υ unfinished″
+  serving-on = record {
     bytes = l .on .bytes ++ take (r .read) bytes′;
-    many = length-append (l .on .bytes) _ ∙ rw (l .on .many, length-take-le (r .read) bytes′ (t .some), e);
+    many = length-append (l .on .bytes) _ ∙ rw (l .on .many, length-take-le (r .read) bytes′ (t .some));
     served = served-then (parse file) (l .on .served) (turn-served file t (l .on .served .serves));
   }
-
-  pub serving-end : r .read ≡ 0 → ServedOn (parse file) σ unfinished total υ unfinished″
-  serving-end z = after (omega arith)
 
   module _ (few : length bytes′ ≤ pieceMost) (h : 0 < turns) where
     pub serving-room : total + r .read < 2 ^ 64
     serving-room = let m = l .room in let k = t .some in omega arith
 
     pub serving-turn : Serving (parse file) σ unfinished (total + r .read) (turns - 1) υ unfinished″
-    serving-turn = let m = l .room in let k = t .some in record { on = after refl; room = omega arith }
+    serving-turn = let m = l .room in let k = t .some in record { on = serving-on; room = omega arith }
 
 -- The end: nothing is in the way of the last line.
 pub ended-all : (file : List ℕ) {σ : State} {unfinished out : List ℕ} {r : Outcome} {τ : State} {unfinished′ out′ : List ℕ} → Serves (parse file) σ unfinished → lineMost ≤ length out
@@ -152,13 +151,13 @@ ended-all file {σ} {unfinished} {out} s room f =
 -- One result.
 
 pub turned-once : TurnedOnce
-turned-once g σ unfinished lines r s τ υ unfinished′ others bytes′ lines′ other e p q =
+turned-once g σ unfinished lines r s τ υ unfinished′ others bytes′ lines′ other e b p q =
     let f : Feeds g σ unfinished (take (r .read) bytes′) lines (record { code = 0; written = s .written }) υ others other = rw e (q .feeds) in
     let w = one-result .answered-once _ _ _ _ _ _ _ _ _ _ _ _ _ _ _ (p .feeds) f in
-    (ap (λ (n : ℕ). exchange n (r .written)) e ∙ ap (λ (o : Outcome). exchange (s .read) (o .written)) (w .0), w .1, w .2, w .3)
+    (ap (λ (n : ℕ). exchange n (r .written) (r .failed)) e ∙ ap (λ (o : Outcome). exchange (s .read) (o .written) (r .failed)) (w .0) ∙ ap (exchange (s .read) (s .written)) b, w .1, w .2, w .3)
   where
-    exchange : ℕ → ℕ → Exchange
-    exchange read written = record { read = read; written = written }
+    exchange : ℕ → ℕ → Bool → Exchange
+    exchange read written failed = record { read = read; written = written; failed = failed }
 
 pub served-once : ServedOnce
 served-once g σ unfinished bytes τ υ unfinished′ others p q = p .stands ∙ sym (q .stands)

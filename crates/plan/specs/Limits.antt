@@ -1,6 +1,6 @@
 -- The numbers of document 01, "The plan file", and the offsets computed from them. The code's constants stand in src/limits.rt, and its
 -- function `limits` ties the two. A larger junction changes these numbers, those constants and the document's own in forms/specs, which are proved
--- to be the same, and no proof; the pages and the second program have to follow (.ci/sizes --write, .ci/second-sizes). Routes are at most 64: a hold set has a bit for each.
+-- to be the same, and no proof; docs/CHANGING.md has what else follows. Routes are at most 64: a hold set has a bit for each.
 use Prim.Native.Nat.{ℕ, _+_, _*_}
 use mathlib.Core.List.{List, [], _∷_}
 

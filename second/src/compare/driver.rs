@@ -115,16 +115,11 @@ pub fn hunt(subject: &dyn Subject, seed: u64, most: usize) -> Option<(usize, Mis
 
 /// Compares the one case of a seed that was printed before.
 pub fn repeat(subject: &dyn Subject, seed: u64) -> bool {
-    match try_case(subject, seed, &case(seed)) {
-        Some(mismatch) => {
-            print_mismatch(subject, &mismatch);
-            false
-        }
-        None => {
-            println!("case {seed}: no mismatch");
-            true
-        }
+    let mismatch = try_case(subject, seed, &case(seed));
+    if let Some(mismatch) = &mismatch {
+        print_mismatch(subject, mismatch);
     }
+    mismatch.is_none()
 }
 
 fn print_mismatch(subject: &dyn Subject, mismatch: &Mismatch) {

@@ -2,7 +2,7 @@
 
 use crate::told::is_told_in_full;
 use std::fs;
-use std::io;
+use std::io::{self, ErrorKind};
 use std::path::Path;
 
 /// A session as it stands in its folder.
@@ -38,17 +38,26 @@ pub fn all(directory: &Path) -> io::Result<Vec<Folder>> {
         let text = folder.join("session.txt");
         if !text.is_file() {
             let words = format!("there is no {}", text.display());
-            return Err(io::Error::new(io::ErrorKind::NotFound, words));
+            return Err(io::Error::new(ErrorKind::NotFound, words));
         }
         folders.push(Folder {
             name: name.to_string_lossy().into_owned(),
             plan: fs::read(folder.join("plan.bin")).unwrap_or_default(),
-            events: fs::read(folder.join("events.bin"))?,
-            expected: fs::read(folder.join("expected.txt"))?,
+            events: read(&folder.join("events.bin"))?,
+            expected: read(&folder.join("expected.txt"))?,
         });
+    }
+    if folders.is_empty() {
+        return Err(io::Error::new(ErrorKind::NotFound, "there are none"));
     }
     folders.sort_by_key(|folder| (folder.size(), folder.name.clone()));
     Ok(folders)
+}
+
+/// A file that must be there; the error names it.
+fn read(path: &Path) -> io::Result<Vec<u8>> {
+    let words = |error: io::Error| format!("{}: {error}", path.display());
+    fs::read(path).map_err(|error| io::Error::new(error.kind(), words(error)))
 }
 
 /// Those that are told in full.

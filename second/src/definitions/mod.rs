@@ -23,8 +23,6 @@ use crate::singles::{due, outcome, Single};
 use crate::subject::{Subject, EVENT};
 use folders::Folder;
 use singles::OfSteps;
-use std::io;
-use std::path::Path;
 
 /// A whole run: what is printed for the bytes of a plan and of the events.
 type Printed = Box<dyn Fn(&[u8], &[u8]) -> Vec<u8>>;
@@ -213,11 +211,10 @@ fn shown_line(line: &[u8]) -> String {
     }
 }
 
-/// Holds every wrong definition against the sessions of a directory or the single steps, a line for
-/// each. True if the model and the box do what is expected in all of them, every wrong definition is
-/// caught, and the lists that stand in the tree are these.
-pub fn catch_all(directory: &Path, seed: u64, the_box: Option<&dyn Subject>) -> io::Result<bool> {
-    let folders = folders::all(directory)?;
+/// Holds every wrong definition against these sessions or the single steps, a line for each. True if
+/// the model and the box do what is expected in all of them, every wrong definition is caught, and
+/// the lists that stand in the tree are these.
+pub fn catch_all(folders: Vec<Folder>, seed: u64, the_box: Option<&dyn Subject>) -> bool {
     let right: Vec<(&str, &dyn Subject)> = match the_box {
         Some(the_box) => vec![("the model", &MODEL), ("the box", the_box)],
         None => vec![("the model", &MODEL)],
@@ -266,7 +263,7 @@ pub fn catch_all(directory: &Path, seed: u64, the_box: Option<&dyn Subject>) -> 
         of_steps.len(),
         by_cases.len(),
     );
-    Ok(wrong + missed + wrong_steps + missed_steps + survived == 0 && is_standing)
+    wrong + missed + wrong_steps + missed_steps + survived == 0 && is_standing
 }
 
 /// Whether what is expected of a session is printed; says so if it is not.

@@ -28,7 +28,7 @@ pub const MOST_CASES: usize = 20_000;
 
 /// How many there must be at least, so that none is lost unseen. They may only grow.
 const LEAST_BOXES: usize = 242;
-const LEAST_PROGRAMS: usize = 44;
+const LEAST_PROGRAMS: usize = 50;
 
 /// A wrong function in place of a right one.
 #[derive(Clone, Copy)]

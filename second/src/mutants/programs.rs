@@ -6,7 +6,8 @@ use crate::model::answer::{Answer, Refusal};
 use crate::model::plan::Plan;
 use crate::model::state::Arrays;
 use crate::program::sessions::{Manner, Session};
-use crate::program::Program;
+use crate::program::stories::Story;
+use crate::program::{Output, Program};
 use crate::subject::{unfinished, Kept, EVENT, LINE};
 
 /// A program in this process: a function from what each of its reads brings to what it prints.
@@ -18,10 +19,13 @@ pub struct InProcess {
 }
 
 impl Program for InProcess {
-    fn run(&self, session: &Session) -> Result<Vec<u8>, String> {
-        let mut engine = Engine::start(session.story.file());
+    fn run(&self, session: &Session) -> Output {
+        let mut engine = Engine::start(&session.story);
         (self.play)(&mut engine, &reads(session, self.buffer));
-        Ok(engine.printed)
+        Output {
+            printed: Ok(engine.printed),
+            told: engine.told,
+        }
     }
 }
 
@@ -36,20 +40,25 @@ fn reads(session: &Session, buffer: usize) -> Vec<&[u8]> {
     }
 }
 
+/// What is told of a plan that is not there.
+const NO_PLAN: &[u8] = b"plan.bin can't be opened\n";
+
 /// All that a program has. What is done with it may be wrong.
 struct Engine {
     /// Nothing is played on a plan that can't be read.
     plan: Option<Plan>,
     kept: Kept,
     printed: Vec<u8>,
+    /// On standard error.
+    told: Vec<u8>,
     /// How many events have been played.
     played: usize,
 }
 
 impl Engine {
-    fn start(file: &[u8]) -> Self {
+    fn start(story: &Story) -> Self {
         let mut printed = Vec::new();
-        let plan = (MODEL.read)(file);
+        let plan = (MODEL.read)(story.file());
         match &plan {
             Ok(plan) => print_line(&mut printed, MODEL.verdict(plan)),
             Err(fault) => print_line(&mut printed, fault.form),
@@ -58,6 +67,10 @@ impl Engine {
             plan: plan.ok(),
             kept: Kept::fresh(),
             printed,
+            told: match story.plan {
+                Some(_) => vec![],
+                None => NO_PLAN.to_vec(),
+            },
             played: 0,
         }
     }
@@ -112,6 +125,12 @@ impl Engine {
         self.finish();
     }
 
+    /// Prints what is right and tells something else. It is known whether the plan can be read.
+    fn tell_after(&mut self, reads: &[&[u8]], tell: impl Fn(&mut Vec<u8>, bool)) {
+        self.feed_all(reads, |_, _| ());
+        tell(&mut self.told, self.plan.is_some());
+    }
+
     fn forget(&mut self) {
         self.kept.state = Arrays::fresh();
     }
@@ -136,7 +155,7 @@ type Slip = (&'static str, usize, fn(&mut Engine, &[&[u8]]));
 
 /// Every wrong program.
 pub fn all() -> Vec<InProcess> {
-    let groups = [FORGETFUL, SPLITTING, READING, ONE_READ, PRINTING];
+    let groups = [FORGETFUL, SPLITTING, READING, ONE_READ, PRINTING, TELLING];
     let programs = groups.concat().into_iter();
     let program = |(name, buffer, play): Slip| InProcess { name, buffer, play };
     programs.map(program).collect()
@@ -505,4 +524,60 @@ const PRINTING: &[Slip] = &[
         engine.feed_all(reads, |_, _| ());
         engine.printed.pop();
     }),
+];
+
+/// What they print is right.
+const TELLING: &[Slip] = &[
+    (
+        "something is told where nothing is wrong",
+        4096,
+        |engine, reads| {
+            engine.tell_after(reads, |told, _| {
+                if told.is_empty() {
+                    told.extend(b"plan.bin is there\n");
+                }
+            })
+        },
+    ),
+    (
+        "a plan that can't be read is told on standard error",
+        4096,
+        |engine, reads| {
+            engine.tell_after(reads, |told, is_readable| {
+                if told.is_empty() && !is_readable {
+                    told.extend(b"plan.bin can't be read\n");
+                }
+            })
+        },
+    ),
+    (
+        "nothing is told of a plan that is not there",
+        4096,
+        |engine, reads| engine.tell_after(reads, |told, _| told.clear()),
+    ),
+    (
+        "a plan that is not there is told without its name",
+        4096,
+        |engine, reads| {
+            engine.tell_after(reads, |told, _| {
+                if !told.is_empty() {
+                    *told = b"no plan\n".to_vec();
+                }
+            })
+        },
+    ),
+    (
+        "a plan that is not there is told twice",
+        4096,
+        |engine, reads| engine.tell_after(reads, |told, _| *told = told.repeat(2)),
+    ),
+    (
+        "the line about a plan that is not there has no end",
+        4096,
+        |engine, reads| {
+            engine.tell_after(reads, |told, _| {
+                told.pop();
+            })
+        },
+    ),
 ];

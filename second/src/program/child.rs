@@ -2,11 +2,12 @@
 //! from it at the same time, so that neither has to wait for the other for good.
 
 use super::sessions::{Manner, Session};
-use super::Program;
+use super::{Output, Program};
 use crate::subject::EVENT;
 use std::fs::{self, File};
 use std::io::{self, ErrorKind, Read, Write};
 use std::os::fd::AsRawFd;
+use std::os::unix::fs::PermissionsExt;
 use std::path::{Path, PathBuf};
 use std::process::{Child, ChildStdin, ChildStdout, Command, ExitStatus, Stdio};
 use std::sync::atomic::{AtomicBool, Ordering};
@@ -30,12 +31,15 @@ pub struct Executable {
 
 impl Executable {
     /// A program by its path, in a folder of its own.
-    pub fn new(path: &Path) -> io::Result<Self> {
+    pub fn new(path: &Path) -> Result<Self, String> {
+        let words = |error| format!("'{}' can't be run: {error}", path.display());
+        let whole = startable(path).map_err(words)?;
         let name = format!("second-program-{}", std::process::id());
         let folder = std::env::temp_dir().join(name);
-        fs::create_dir_all(&folder)?;
+        let words = |error| format!("no folder can be made for it: {error}");
+        fs::create_dir_all(&folder).map_err(words)?;
         Ok(Executable {
-            command: vec![path.canonicalize()?],
+            command: vec![whole],
             folder,
             patience: Duration::from_secs(20),
         })
@@ -65,18 +69,24 @@ impl Executable {
         File::options().read(true).write(true).open(plan)
     }
 
+    /// Where standard error goes. A file need not be read at the same time, and whoever keeps it open
+    /// keeps nobody waiting.
+    fn told(&self) -> PathBuf {
+        self.folder.join("told.txt")
+    }
+
     fn start(&self) -> io::Result<Child> {
         Command::new(&self.command[0])
             .args(&self.command[1..])
             .current_dir(&self.folder)
             .stdin(Stdio::piped())
             .stdout(Stdio::piped())
+            .stderr(File::create(self.told())?)
             .spawn()
     }
-}
 
-impl Program for Executable {
-    fn run(&self, session: &Session) -> Result<Vec<u8>, String> {
+    /// Runs it from its start to its end.
+    fn printed(&self, session: &Session) -> Result<Vec<u8>, String> {
         let words = |error: io::Error| format!("{}: {error}", self.command[0].display());
         self.lay_out(session).map_err(words)?;
         let is_piped = session.is_plan_piped && CAN_ASK;
@@ -96,6 +106,32 @@ impl Program for Executable {
         match status? {
             status if status.success() => Ok(printed),
             status => Err(format!("it ends with {status} and not with status 0")),
+        }
+    }
+}
+
+/// The whole path of a program, since it is started in another folder; or why it can't be.
+fn startable(path: &Path) -> io::Result<PathBuf> {
+    let whole = path.canonicalize()?;
+    let about = whole.metadata()?;
+    if !about.is_file() {
+        return Err(io::Error::other("it is no file"));
+    }
+    if about.permissions().mode() & 0o111 == 0 {
+        return Err(io::Error::other("it is not executable"));
+    }
+    Ok(whole)
+}
+
+impl Program for Executable {
+    fn run(&self, session: &Session) -> Output {
+        let printed = self.printed(session);
+        match fs::read(self.told()) {
+            Ok(told) => Output { printed, told },
+            Err(error) => Output {
+                printed: printed.and(Err(format!("its standard error can't be read: {error}"))),
+                told: vec![],
+            },
         }
     }
 }

@@ -26,19 +26,22 @@ first-line-requires c κs = search needs
 array-share-prefix-first : tie.Need-array-share-prefix-first
 array-share-prefix-first c = search needs
 
-slice-aggregate-write-all : tie.Need-slice-aggregate-write-all
-slice-aggregate-write-all c =
+slice-aggregate-print : tie.Need-slice-aggregate-print
+slice-aggregate-print c =
     let first = c .before .before .first-line in
     sym (length-take-le _ (first .last .1 .0) (omega (arith, first .ensures .within, first .kept .1 .0)))
 
-write-all-requires : tie.Need-write-all-requires
-write-all-requires c κs = search needs
+print-requires : tie.Need-print-requires
+print-requires c κs = search needs
+
+returns : tie.Need-returns
+returns c = search needs
 
 signalbox-read-requires : tie.Need-signalbox-read-requires
 signalbox-read-requires c κs = search needs
 
-returns : tie.Need-returns
-returns c = search needs
+returns-2 : tie.Need-returns-2
+returns-2 c = search needs
 
 signalbox-fresh-requires : tie.Need-signalbox-fresh-requires
 signalbox-fresh-requires c κs = search needs
@@ -47,8 +50,11 @@ serve-requires : tie.Need-serve-requires
 serve-requires c κs =
     let begun = c .before .before .before in
     let reads = begun .before .before .before .before in
-    let loaded = reads .before .before .before .before .before .before .before .before in
-    begins (take (loaded .load .result) (loaded .load .last .0)) (begun .signalbox-fresh .ensures) (reads .before .signalbox-read .ensures) (reads .if1 .left)
+    let loaded = reads .before .before .before .before .before .before .before .before .before in
+    begins (take (loaded .load .result) (loaded .load .last .0)) (begun .signalbox-fresh .ensures) (reads .before .signalbox-read .ensures) (reads .if2 .left)
+
+returns-3 : tie.Need-returns-3
+returns-3 c = search needs
 
 slice-aggregate-last-line : tie.Need-slice-aggregate-last-line
 slice-aggregate-last-line c = search needs
@@ -59,16 +65,16 @@ last-line-requires c κs = search needs
 array-share-prefix-last : tie.Need-array-share-prefix-last
 array-share-prefix-last c = search needs
 
-slice-aggregate-write-all-2 : tie.Need-slice-aggregate-write-all-2
-slice-aggregate-write-all-2 c =
+slice-aggregate-print-2 : tie.Need-slice-aggregate-print-2
+slice-aggregate-print-2 c =
     let last = c .before .before .last-line in
     sym (length-take-le _ (last .last .1 .1 .1 .1 .0) (omega (arith, last .ensures .written .within, last .kept .1 .1 .1 .1 .0)))
 
-write-all-requires-2 : tie.Need-write-all-requires-2
-write-all-requires-2 c κs = search needs
+print-requires-2 : tie.Need-print-requires-2
+print-requires-2 c κs = search needs
 
-returns-2 : tie.Need-returns-2
-returns-2 c = search needs
+returns-4 : tie.Need-returns-4
+returns-4 c = search needs
 
 pub main-spec : {M : Type 1} → statement M
 main-spec =
@@ -80,15 +86,17 @@ main-spec =
     slice-aggregate-first-line
     first-line-requires
     array-share-prefix-first
-    slice-aggregate-write-all
-    write-all-requires
-    signalbox-read-requires
+    slice-aggregate-print
+    print-requires
     returns
+    signalbox-read-requires
+    returns-2
     signalbox-fresh-requires
     serve-requires
+    returns-3
     slice-aggregate-last-line
     last-line-requires
     array-share-prefix-last
-    slice-aggregate-write-all-2
-    write-all-requires-2
-    returns-2)
+    slice-aggregate-print-2
+    print-requires-2
+    returns-4)

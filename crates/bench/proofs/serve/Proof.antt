@@ -5,7 +5,7 @@ use lib.Seq.{length-take-le}
 use Rattle.reading.specs.Reading.{parse}
 use Rattle.state.specs.Cells.{stateIn}
 use denote.Ref.{now}
-use Rattle.bench.proofs.Served.{full-piece, full-lines, still, turn-within, Serving, serving-start, serving-end, serving-room, serving-turn}
+use Rattle.bench.proofs.Served.{full-piece, full-lines, still, turn-within, Serving, serving-start, serving-on, serving-room, serving-turn}
 use borrow.Author.Needs.{needs}
 use Rattle.bench.proofs.serve.Statement.{statement}
 use Rattle.bench.proofs.serve.Tie as tie
@@ -31,22 +31,20 @@ turn-requires c κs = (c .before .before .before .before .before .before .loop .
 array-share-prefix-lines : tie.Need-array-share-prefix-lines Inv-loop μ-loop
 array-share-prefix-lines c = turn-within _ (c .before .before .turn .ensures)
 
-slice-aggregate-write-all : tie.Need-slice-aggregate-write-all Inv-loop μ-loop
-slice-aggregate-write-all c = sym (length-take-le _ _ (turn-within _ (c .before .before .before .turn .ensures)))
+slice-aggregate-print : tie.Need-slice-aggregate-print Inv-loop μ-loop
+slice-aggregate-print c = sym (length-take-le _ _ (turn-within _ (c .before .before .before .turn .ensures)))
 
-write-all-requires : tie.Need-write-all-requires Inv-loop μ-loop
-write-all-requires c κs = search needs
-
-returns : tie.Need-returns Inv-loop μ-loop
-returns c =
-    let done = c .before .before .before .before .before in
-    serving-end _ (done .before .before .before .before .before .before .before .loop .inv) (done .turn .ensures) (c .if1 .taken)
+print-requires : tie.Need-print-requires Inv-loop μ-loop
+print-requires c κs = search needs
 
 add-total : tie.Need-add-total Inv-loop μ-loop
 add-total c =
-    let done = c .before .before .before .before .before in
+    let done = c .before .before .before .before in
     let test = done .before .before .before .before .before .before in
     omega (arith, serving-room _ (test .before .loop .inv) (done .turn .ensures) (still (done .turn .kept .1 .1 .1 .1 .0) full-piece) (test .loop-test .taken))
+
+returns : tie.Need-returns Inv-loop μ-loop
+returns c = serving-on _ (c .before .before .before .before .before .before .before .before .before .before .before .before .before .before .loop .inv) (c .before .before .before .before .before .before .before .turn .ensures)
 
 sub-turns : tie.Need-sub-turns Inv-loop μ-loop
 sub-turns c = search needs
@@ -56,12 +54,15 @@ loop-less c = search needs
 
 loop-again : tie.Need-loop-again Inv-loop μ-loop
 loop-again c =
-    let done = c .before .before .before .before .before in
+    let done = c .before .before .before .before .before .before .before in
     let test = done .before .before .before .before .before .before in
     serving-turn _ (test .before .loop .inv) (done .turn .ensures) (still (done .turn .kept .1 .1 .1 .1 .0) full-piece) (test .loop-test .taken)
 
 returns-2 : tie.Need-returns-2 Inv-loop μ-loop
 returns-2 c = c .before .loop .inv .on
+
+returns-3 : tie.Need-returns-3 Inv-loop μ-loop
+returns-3 c = serving-on _ (c .before .before .before .before .before .before .before .before .before .before .before .before .loop .inv) (c .before .before .before .before .before .turn .ensures)
 
 pub serve-spec : {M : Type 1} → statement M
 serve-spec =
@@ -74,11 +75,12 @@ serve-spec =
     slice-aggregate-turn-2
     turn-requires
     array-share-prefix-lines
-    slice-aggregate-write-all
-    write-all-requires
-    returns
+    slice-aggregate-print
+    print-requires
     add-total
+    returns
     sub-turns
     loop-less
     loop-again
-    returns-2)
+    returns-2
+    returns-3)

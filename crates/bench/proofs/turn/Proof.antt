@@ -8,6 +8,9 @@ use borrow.Author.Needs.{needs}
 use Rattle.bench.proofs.turn.Statement.{statement}
 use Rattle.bench.proofs.turn.Tie as tie
 
+slice-aggregate-next : tie.Need-slice-aggregate-next
+slice-aggregate-next c = search needs
+
 next-requires : tie.Need-next-requires
 next-requires c κs = search needs
 
@@ -30,14 +33,16 @@ returns : tie.Need-returns
 returns c =
     let fed = c .before .before in
     let read = fed .before .before .before .before .before .before .before .before in
-    let s = read .before .before .before .before .before in
-    turned (now (s .args .plan)) (take (read .next .result) (read .next .last .0)) (s .pre .0) (omega (arith, read .next .ensures .0, read .next .ensures .1, read .next .kept .0, s .pre .1 .0)) (s .pre .1 .1)
-    (fed .signalbox-feed .ensures) refl (read .next .ensures .0)
+    let s = read .before .before .before .before .before .before in
+    turned (now (s .args .plan)) (take (read .next .result .read) (read .next .last .1 .0)) (s .pre .0)
+    (omega (arith, read .next .ensures .some .0, read .next .ensures .some .1, read .next .kept .1 .0, s .pre .1 .0)) (s .pre .1 .1)
+    (fed .signalbox-feed .ensures) refl (read .next .ensures .some .0) (read .next .ensures .idle)
 
 pub turn-spec : {M : Type 1} → statement M
 turn-spec =
     tie.close
     (tie.spec
+    slice-aggregate-next
     next-requires
     slice-reshare-prefix-signalbox-feed
     slice-aggregate-signalbox-feed
