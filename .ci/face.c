@@ -1,6 +1,6 @@
 /* face PLAN EVENTS: tries what include/signalbox.h says of the library beside its declarations, with a plan that reads. The
- * macros, what the state shows, the room to the last byte, the order of reasons, lengths of 0, incomplete events, calls at
- * the same time, and the stack of each call, which it prints. A line for each fault on standard error, and status 1. */
+ * macros, what the state shows, the room to the last byte, the order of reasons, lengths of 0, incomplete events, the plan in
+ * memory and as a file again, calls at the same time, and the stack of each call, which it prints. A line for each fault on standard error, and status 1. */
 #include <pthread.h>
 #include <stdio.h>
 #include <stdlib.h>
@@ -46,13 +46,19 @@ static void codes(trial *t)
              && !SIGNALBOX_IS_REFUSAL(moved) && !SIGNALBOX_IS_ACCIDENT(form), "the sort of a code", 0, 0);
     asks(t, SIGNALBOX_LIES_FROM == SIGNALBOX_TRAINS_FROM + SIGNALBOX_TRACKS && SIGNALBOX_SIGNALS_FROM == SIGNALBOX_LIES_FROM + SIGNALBOX_TRACKS
              && SIGNALBOX_CELLS == SIGNALBOX_SIGNALS_FROM + SIGNALBOX_SIGNALS, "where the parts of the cells stand", 0, 0);
+    asks(t, SIGNALBOX_TRACK(SIGNALBOX_TRACKS) == SIGNALBOX_SIGNALS_AT && SIGNALBOX_SIGNAL(SIGNALBOX_SIGNALS) == SIGNALBOX_ROUTES_AT
+             && SIGNALBOX_ROUTE(SIGNALBOX_ROUTES) == SIGNALBOX_ENTRIES_AT && SIGNALBOX_ENTRY(SIGNALBOX_ENTRIES) == SIGNALBOX_IMAGE,
+         "where the sections of an image stand", 0, 0);
+    asks(t, SIGNALBOX_ROUTE_SIZE == SIGNALBOX_RELEASES_AT + 1 + SIGNALBOX_RELEASE_SIZE * SIGNALBOX_RELEASES
+             && SIGNALBOX_ENTRY_SIZE == SIGNALBOX_ENTRY_CLEAR_AT + 1 + SIGNALBOX_CLEAR, "how long a row of an image is", 0, 0);
 }
+
+static const uint8_t bench[] = {4, 0, 2, 0, 0, 0, 2, 0, 0, 2, 3, 0, 1, 3, 0, 0, 0, 2, 0, 1, 2, 0, 2, 2, 3, 2, 2, 3, 1, 2, 0, 1, 3, 2,
+                                1, 2, 2, 3, 2, 2, 3, 0, 1, 2, 1, 3, 2, 2, 0, 1, 0, 1, 1, 1};
 
 /* Where each thing of the state stands, on the bench plan: train 7 comes in on track 0, and route 1 turns and holds point 2. */
 static void shown(trial *t)
 {
-    static const uint8_t bench[] = {4, 0, 2, 0, 0, 0, 2, 0, 0, 2, 3, 0, 1, 3, 0, 0, 0, 2, 0, 1, 2, 0, 2, 2, 3, 2, 2, 3, 1, 2, 0, 1, 3, 2,
-                                    1, 2, 2, 3, 2, 2, 3, 0, 1, 2, 1, 3, 2, 2, 0, 1, 0, 1, 1, 1};
     static const uint8_t events[] = {SIGNALBOX_ENTER, 0, 7, SIGNALBOX_REQUEST, 1, 0};
     uint8_t cells[SIGNALBOX_CELLS] = {0};
     uint64_t holds[SIGNALBOX_HOLDS] = {0}, answers[2];
@@ -128,6 +134,52 @@ static void reasons(trial *t)
     asks(t, memcmp(out, was, sizeof out) == 0 && s.unfinished[0] == SIGNALBOX_EVENT, "nothing is written", 0, 0);
     o = signalbox_open(NULL, 0, out, SIGNALBOX_OPEN_ROOM);
     asks(t, o.code == 0 && o.written == strlen("form 1 at 0\n") && memcmp(out, "form 1 at 0\n", o.written) == 0, "a form's line", o.code, o.written);
+}
+
+/* The plan in memory, and as a file again: a file that is no plan leaves the image; an image that is none leaves the buffer,
+ * whatever its room; so does a room that is one byte short, and just enough is enough. */
+static void images(trial *t)
+{
+    signalbox_image image, was;
+    uint8_t out[SIGNALBOX_LARGEST_PLAN + 1], before[SIGNALBOX_LARGEST_PLAN + 1];
+    const uint64_t written = SIGNALBOX_WRITTEN | (uint64_t)t->plan_length << 8;
+    size_t last = SIGNALBOX_IMAGE - 1, room;
+    memset(&image, PAINT, sizeof image);
+    was = image;
+    for (room = 0; room < sizeof out; room++)
+        out[room] = (uint8_t)(room * 89 + 7);
+    memcpy(before, out, sizeof out);
+    asks(t, signalbox_load(NULL, 0, &image) == SIGNALBOX_FORM_ENDS_EARLY && memcmp(&image, &was, sizeof image) == 0, "load with no byte", 0, 0);
+    for (room = 0; room <= sizeof out; room += sizeof out)
+        asks(t, signalbox_write(&image, out, room) == SIGNALBOX_NO_FILE, "an image that is none", room, 0);
+    asks(t, signalbox_load(t->plan, t->plan_length, &image) == 0, "a plan is loaded", 0, 0);
+    asks(t, image.bytes[SIGNALBOX_TRACKS_AT] == t->plan[0] && memcmp(image.bytes + SIGNALBOX_TRACK(0), t->plan + 1, SIGNALBOX_TRACK_SIZE * (size_t)t->plan[0]) == 0,
+         "the tracks of an image", 0, 0);
+    was = image;
+    asks(t, signalbox_write(&image, NULL, 0) == SIGNALBOX_NO_ROOM, "write with no room", 0, 0);
+    asks(t, signalbox_write(&image, out, t->plan_length - 1) == SIGNALBOX_NO_ROOM, "a room one byte short", t->plan_length, 0);
+    asks(t, memcmp(out, before, sizeof out) == 0, "a refusal leaves the buffer", 0, 0);
+    asks(t, signalbox_write(&image, out, t->plan_length) == written, "a room that is just enough", t->plan_length, 0);
+    asks(t, SIGNALBOX_LENGTH(written) == t->plan_length && SIGNALBOX_NUMBER(written) == SIGNALBOX_WRITTEN, "the length of a file", t->plan_length, 0);
+    asks(t, memcmp(out, t->plan, t->plan_length) == 0 && memcmp(out + t->plan_length, before + t->plan_length, sizeof out - t->plan_length) == 0, "the file, and what is past it", 0, 0);
+    asks(t, memcmp(&image, &was, sizeof image) == 0, "what is written stays", 0, 0);
+    image.bytes[0] = 0;
+    asks(t, signalbox_write(&image, out, 0) == SIGNALBOX_NO_FILE, "an image without tracks, and no room", 0, 0);
+    image = was;
+    image.bytes[last] ^= 255;
+    asks(t, t->plan_length == SIGNALBOX_LARGEST_PLAN || signalbox_write(&image, out, sizeof out) == SIGNALBOX_NO_FILE, "the last byte of all", last, 0);
+}
+
+/* The example of docs/IMAGE.md, on the bench plan: two tracks less, and so two bytes. */
+static void example(trial *t)
+{
+    const size_t bench_length = sizeof bench;
+    uint64_t noted[9], said[9];
+    size_t count = 0, i;
+#include "example.h"
+    asks(t, count == 4, "the example of docs/IMAGE.md has four codes", count, 0);
+    for (i = 0; i < count; i++)
+        asks(t, noted[i] == said[i], "the example of docs/IMAGE.md gives another code than it says", i, noted[i]);
 }
 
 static void none(trial *t)
@@ -258,10 +310,14 @@ static void stacks(trial *t)
     uint64_t *answers = (uint64_t *)calloc(codes_room + 1, sizeof *answers);
     uint8_t *out = (uint8_t *)malloc(room);
     signalbox_state s = fresh();
+    signalbox_image image;
+    uint8_t file[SIGNALBOX_LARGEST_PLAN];
     if (!answers || !out)
         exit(2);
     DEPTH(signalbox_fresh, AT(s.cells), AT(s.holds), AT(s.unfinished));
     DEPTH(signalbox_read, AT(t->plan), t->plan_length);
+    DEPTH(signalbox_load, AT(t->plan), t->plan_length, AT(&image));
+    DEPTH(signalbox_write, AT(&image), AT(file), sizeof file);
     DEPTH(signalbox_check, AT(t->plan), t->plan_length);
     DEPTH(signalbox_step, AT(t->plan), t->plan_length, AT(s.cells), AT(s.holds), AT(t->events), t->events_length);
     DEPTH(signalbox_run, AT(t->plan), t->plan_length, AT(s.cells), AT(s.holds), AT(t->events), t->events_length, AT(answers), codes_room);
@@ -301,6 +357,8 @@ int main(int count, char **words)
             feed_room(&t, waiting, length);
     }
     reasons(&t);
+    images(&t);
+    example(&t);
     none(&t);
     steps(&t);
     at_once(&t);

@@ -366,7 +366,7 @@ def spans(cell):
 
 # What a host in C sees of the box, for its header: every constant, the printed line of each number, every function and struct, each with the place
 # in the sources that gives it.
-ANSWERS, LINES = 'events/specs/Answers.antt', 'lines/specs/Lines.antt'
+ANSWERS, LINES, WRITING = 'events/specs/Answers.antt', 'lines/specs/Lines.antt', 'writing/specs/Writing.antt'
 # the definitions of numbers by the cases of an enum: how the header's names begin, and where their values and the words of their lines are defined
 NUMBERED = (
     ('FORM_', 'reading/specs/Reading.antt', 'formNumber', None, None),
@@ -374,10 +374,9 @@ NUMBERED = (
     ('ACCIDENT_', ANSWERS, 'harmNumber', 'harmValues', 'harmWords'),
     ('', ANSWERS, 'deedNumber', 'deedValues', 'deedWords'),
 )
-# sizes by another name in the header, or by two; those of the image, which no host sees; and the program's own
-RENAMED = {'IMAGE': ('LARGEST_PLAN',), 'TRACKS': ('TRACKS', 'HOLDS')}
-IMAGES = ('TRACK_SIZE', 'RELEASE_SIZE', 'ROUTE_SIZE', 'ENTRY_SIZE', 'PATH_AT', 'CLEAR_AT', 'NORMAL_AT', 'REVERSE_AT', 'RELEASES_AT', 'ENTRY_CLEAR_AT',
-          'TRACKS_AT', 'SIGNALS_AT', 'ROUTES_AT', 'ENTRIES_AT')
+# sizes by another name in the header, or by two; memory of such a size that is a struct there; and the program's own
+RENAMED = {'IMAGE': ('LARGEST_PLAN', 'IMAGE'), 'TRACKS': ('TRACKS', 'HOLDS')}
+OPAQUE = {'IMAGE': 'signalbox_image'}
 FACED = tuple(file for file in SIZES if not file.startswith('bench/'))
 SHOWN = {'noTrain': 'NO_TRAIN', 'normalLie': 'NORMAL', 'reverseLie': 'REVERSE', 'red': 'RED'}
 TYPES = {'u8': 'uint8_t', 'u64': 'uint64_t', 'usize': 'size_t', '': 'void'}
@@ -442,8 +441,10 @@ def face_codes(root):
             else:
                 line = wording(strings(place_of(root, LINES, r'^formLine form = .*')[0][0]), [int(value), '<offset>'])
             found[lead + capitals(case)] = (int(value), line, place)
-    room, place = place_of(root, 'codes/specs/Codes.antt', r'^noRoom = (\d+)$')
-    found['NO_ROOM'] = (int(room[1]), None, place)
+    for case, (value, place) in equations(root, WRITING, 'unwrittenNumber').items():
+        found[capitals(case)] = (int(value), None, place)
+    written, place = place_of(root, WRITING, r'^writtenNumber \(Whole size\) = (\d+)$')
+    found['WRITTEN'] = (int(written[1]), None, place)
     accepted, place = place_of(root, 'codes/specs/Codes.antt', r'^verdictCode v = packed \(\((\d+) \+ ruleNumber v\)')
     found['ACCEPTED'] = (int(accepted[1]), *strings(given_for(root, LINES, 'verdictLine', 'Accepted')), place)
     return found
@@ -472,10 +473,9 @@ def face_numbers(root):
     """Every constant of the header by its name: its number, what its comment must begin with or None, and its place in the sources."""
     found = {}
     for name, (_, value) in constants(root, FACED).items():
-        if name not in IMAGES:
-            place = next(place_of(root, file, rf'\bconst {name}\b')[1] for file in FACED if re.search(rf'\bconst {name}\b', (Path(root) / 'crates' / file).read_text()))
-            for other in RENAMED.get(name, (name,)):
-                found[other] = (value, None, place)
+        place = next(place_of(root, file, rf'\bconst {name}\b')[1] for file in FACED if re.search(rf'\bconst {name}\b', (Path(root) / 'crates' / file).read_text()))
+        for other in RENAMED.get(name, (name,)):
+            found[other] = (value, None, place)
     for name, value in defined(root, 'state/specs/State.antt').items():
         found[SHOWN.get(name, capitals(name))] = (value, None, place_of(root, 'state/specs/State.antt', rf'^{name} = ')[1])
     parameters, place = place_of(root, 'events/src/lib.rt', r'\bfn event_of\(([^)]*)\)')
@@ -496,20 +496,23 @@ def c_type(type_):
 
 
 def c_parameters(parameter):
-    """A parameter as those of C that it passes as: a slice as a pointer and a length, a room where it is to be written; an array as a pointer."""
+    """A parameter as those of C that it passes as: a slice as a pointer and a length, a room where it is to be written; an array as a pointer, to a struct
+    where its size has one."""
     m = re.fullmatch(r'(\w+)\s*:\s*&\s*(mut\s+)?\[\s*(\w+)\s*(?:;\s*(\w+)\s*)?\]', parameter)
     if not m:
         raise ValueError(f"the parameter '{words(parameter)}' is not read here")
     name, written, type_, length = m.groups()
     lead = '' if written else 'const '
+    if length in OPAQUE:
+        return [f'{lead}{OPAQUE[length]} *{name}']
     if length:
         return [f'{lead}{c_type(type_)} {name}[SIGNALBOX_{RENAMED.get(length, (length,))[-1]}]']
     return [f'{lead}{c_type(type_)} *{name}', 'size_t room' if written else f'size_t {name}_length']
 
 
 def face_functions(root):
-    """The exported functions as they are declared in C, by name, each with its place; and the structs: what a call hands back, and the state, which is
-    all that the fresh state is lent."""
+    """The exported functions as they are declared in C, by name, each with its place; and the structs: what a call hands back, the image, and the
+    state, which is all that the fresh state is lent."""
     root, functions, structs = Path(root), {}, {}
     for file in sorted(root.glob('crates/*/src/**/*.rt')):
         text = file.read_text()
@@ -528,6 +531,10 @@ def face_functions(root):
                 structs[result] = ([f'{c_type(type_)} {field}' for field, type_ in re.findall(r'pub (\w+): (\w+),', fields[1])], where)
             parameters = [text_ for parameter in f.parameters for text_ in c_parameters(words(parameter))]
             functions[name] = (result, parameters, place)
+            for type_, length in re.findall(r'\[\s*(\w+)\s*;\s*(\w+)\s*\]', ' '.join(f.parameters)):
+                if length in OPAQUE:
+                    where = place_of(root, 'plan/src/limits.rt', rf'\bconst {length}\b')[1]
+                    structs[OPAQUE[length]] = ([f'{c_type(type_)} bytes[SIGNALBOX_{RENAMED.get(length, (length,))[-1]}]'], where)
             if name == 'signalbox_fresh':
                 structs['signalbox_state'] = (parameters, place)
     return functions, structs

@@ -11,6 +11,8 @@
 
 void __real_signalbox_fresh(STATE_, REST_);
 uint64_t __real_signalbox_read(FILE_);
+uint64_t __real_signalbox_load(FILE_, signalbox_image *image);
+uint64_t __real_signalbox_write(const signalbox_image *image, uint8_t *out, size_t room);
 uint64_t __real_signalbox_check(FILE_);
 uint64_t __real_signalbox_step(FILE_, STATE_, const uint8_t *event, size_t event_length);
 signalbox_outcome __real_signalbox_run(FILE_, STATE_, const uint8_t *events, size_t events_length, uint64_t *answers, size_t room);
@@ -47,6 +49,36 @@ uint64_t __wrap_signalbox_read(FILE_)
 {
     uint64_t code = __real_signalbox_read(file, file_length);
     return wrong("read-code") ? code ^ SIGNALBOX_FORM_LEFT_OVER : code;
+}
+
+uint64_t __wrap_signalbox_load(FILE_, signalbox_image *image)
+{
+    uint64_t code = __real_signalbox_load(file, file_length, image);
+    if (wrong("load-image"))
+        image->bytes[SIGNALBOX_IMAGE - 1] ^= 1;
+    if (wrong("unread-load") && code != 0)
+        image->bytes[SIGNALBOX_IMAGE / 2] ^= 1;
+    return wrong("load-code") ? code ^ SIGNALBOX_FORM_LEFT_OVER : code;
+}
+
+uint64_t __wrap_signalbox_write(const signalbox_image *image, uint8_t *out, size_t room)
+{
+    uint64_t code = __real_signalbox_write(image, out, room);
+    if (wrong("write-byte") && SIGNALBOX_NUMBER(code) == SIGNALBOX_WRITTEN)
+        out[SIGNALBOX_LENGTH(code) - 1] ^= 1;
+    if (wrong("write-past") && SIGNALBOX_NUMBER(code) == SIGNALBOX_WRITTEN && SIGNALBOX_LENGTH(code) < room)
+        out[SIGNALBOX_LENGTH(code)] ^= 1;
+    if (wrong("write-short") && code == SIGNALBOX_NO_ROOM)
+        return SIGNALBOX_WRITTEN | (uint64_t)room << 8;
+    if (wrong("write-spoils") && code == SIGNALBOX_NO_ROOM && room)
+        out[0] ^= 1;
+    if (wrong("write-alters") && SIGNALBOX_IS_WRITTEN(code))
+        ((signalbox_image *)(uintptr_t)image)->bytes[SIGNALBOX_IMAGE / 2] ^= 1;
+    if (wrong("write-high"))
+        return code | (uint64_t)1 << 56;
+    if (wrong("write-refuses"))
+        return SIGNALBOX_NO_FILE;
+    return wrong("write-length") ? code + 256 : code;
 }
 
 uint64_t __wrap_signalbox_check(FILE_)

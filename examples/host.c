@@ -5,9 +5,12 @@
  *     as codes      signalbox_run with all events at once
  *     one by one    signalbox_step for each event
  *
+ * Before that it loads the plan into memory, signalbox_load, and writes it as a file again, signalbox_write.
+ *
  * The lines go to standard output as they come. Status 0: all three gave the same lines, the same state and the same
- * reason not to play on. Status 1: they differ, or an accident came on an accepted plan; status 2: a file, the output
- * or memory failed. Both say on standard error what it was. The same file is C11 and C++11. */
+ * reason not to play on, and the plan came back as it was. Status 1: something differs, or an accident came on an
+ * accepted plan; status 2: a file, the output or memory failed. Both say on standard error what it was. The same file
+ * is C11 and C++11. */
 #include <stdio.h>
 #include <stdlib.h>
 #include <string.h>
@@ -284,6 +287,42 @@ static int explains(uint64_t reason)
     return tells(WRONG, "no reason has the code that came", "");
 }
 
+/* Keeps the plan: it is loaded, and what was loaded is written again. A host that alters plans does the one, alters the
+ * image (docs/IMAGE.md) and does the other; what comes is read, so that it can be checked and played. The buffer has a
+ * byte more than the file here, to see that it stays; a room that is a byte short is told, and nothing is written. */
+static int keeps(const text *plan)
+{
+    enum { MARK = 0x5a };
+    signalbox_image image, was;
+    uint8_t out[SIGNALBOX_LARGEST_PLAN + 1];
+    uint64_t code;
+    size_t i;
+    memset(&image, MARK, sizeof image);
+    memset(out, MARK, sizeof out);
+    code = signalbox_load(plan->bytes, plan->length, &image);
+    if (code != signalbox_read(plan->bytes, plan->length))
+        return tells(WRONG, "loading and reading differ", "");
+    if (code != 0) {
+        for (i = 0; i < sizeof image.bytes; i++)
+            if (image.bytes[i] != MARK)
+                return tells(WRONG, "a file that is no plan has altered the image", "");
+        return DONE;
+    }
+    was = image;
+    if (signalbox_write(&image, out, plan->length - 1) != SIGNALBOX_NO_ROOM || out[0] != MARK)
+        return tells(WRONG, "the plan is written where there is too little room", "");
+    code = signalbox_write(&image, out, sizeof out);
+    if (!SIGNALBOX_IS_WRITTEN(code) || code >> 24 != 0)
+        return tells(WRONG, "the plan that was loaded is not written", "");
+    if (SIGNALBOX_LENGTH(code) != plan->length || memcmp(out, plan->bytes, plan->length) != 0)
+        return tells(WRONG, "the plan that was loaded is written as another", "");
+    if (out[plan->length] != MARK)
+        return tells(WRONG, "a byte past the file is written", "");
+    if (memcmp(&image, &was, sizeof image) != 0)
+        return tells(WRONG, "the plan in memory was altered as it was written", "");
+    return DONE;
+}
+
 /* A real host goes no further than signalbox_check where the plan is not accepted. This one does, like the program,
  * to show what goes wrong. */
 static int plays(const text *plan, const text *events)
@@ -295,7 +334,9 @@ static int plays(const text *plan, const text *events)
     if (signalbox_read(plan->bytes, plan->length) != (SIGNALBOX_IS_FORM(verdict) ? verdict : 0))
         return tells(WRONG, "reading and checking differ", "");
     memset(ways, 0, sizeof ways);
-    status = by_lines(&ways[0], plan, events);
+    status = keeps(plan);
+    if (status == DONE)
+        status = by_lines(&ways[0], plan, events);
     if (status == DONE)
         status = by_run(&ways[1], verdict, plan, events);
     if (status == DONE)

@@ -11,7 +11,13 @@
  *     signalbox_feed      plays events as their bytes come, cut anywhere, and writes their answers as lines,
  *     signalbox_finish    says that the input has ended: however it was cut, the lines are what the program prints
  *
- * docs/PLAN.md has the plan file byte by byte, and what each answer means. This file and the archive are of one tree:
+ * A host that keeps, alters or writes plans has two more, and needs no state for them:
+ *
+ *     signalbox_load      reads a plan file into a signalbox_image
+ *     signalbox_write     writes an image as the plan file that it is
+ *
+ * docs/PLAN.md has the plan file byte by byte, and what each answer to an event means; docs/IMAGE.md has the plan in
+ * memory, and what each answer to signalbox_write means. This file and the archive are of one tree:
  * sizes stand in both, and nothing notices at the linking where they differ.
  *
  * Nothing is asked of what the bytes say: any bytes as a plan, any state and any bytes as events get an answer, and
@@ -28,7 +34,7 @@
  * Memory. All that is lent is there for the call, as long as its length says, and nobody else writes it meanwhile.
  * What is lent to be written, every pointer without const, overlaps nothing else that is lent to the call: bytes and
  * lines need two buffers. Numbers of 64 bits, holds and answers, are aligned as uint64_t is. Where a length or a room
- * is 0 its pointer may be NULL, and no byte is touched; cells, holds and unfinished are never NULL.
+ * is 0 its pointer may be NULL, and no byte is touched; cells, holds, unfinished and an image are never NULL.
  *
  * Threads. The library has no memory of its own that it writes, and keeps nothing from call to call. Calls may run at
  * the same time where none is lent to write what another is lent. Two calls may share a plan, and not a state.
@@ -38,8 +44,9 @@
  *
  * Stack. As it was measured on the largest plan, a call takes at most 22,384 bytes: signalbox_run 22,384,
  * signalbox_feed 22,384, signalbox_step 22,352, signalbox_finish 22,336, signalbox_open 22,272, signalbox_check
- * 22,240, signalbox_read 22,208, signalbox_fresh 24. The return address and memcpy and memset of the C library there
- * are counted, which on another machine may take some more; arguments on the stack, 24 bytes at most, come on top.
+ * 22,240, signalbox_read 22,208, signalbox_load 11,344, signalbox_write 472, signalbox_fresh 24. The return address and
+ * memcpy and memset of the C library there are counted, which on another machine may take some more; arguments on the
+ * stack, 24 bytes at most, come on top.
  * Where the dynamic linker looks these two up at their first call, that call took up to 25,320 bytes in all. No theorem
  * bounds a stack: leave some to spare. */
 #ifndef SIGNALBOX_H
@@ -68,6 +75,44 @@ extern "C" {
 /* The bytes of the largest plan file. A longer file is no plan, and one byte more than this is enough to tell its
  * form: a host need not read the rest. */
 #define SIGNALBOX_LARGEST_PLAN 10852
+
+/* A plan in memory. signalbox_load makes one, and signalbox_write takes any bytes as one. It can be copied, and means
+ * the same wherever it lies. To keep a plan for long, keep its file: an image of another tree may be of another size.
+ *
+ * A host that looks at a plan or alters it finds each thing at an offset of its own, as docs/IMAGE.md tells; the others
+ * need none of these numbers. A list is its count, and then room for as many as there may be:
+ *
+ *     bytes[SIGNALBOX_TRACKS_AT], bytes[SIGNALBOX_SIGNALS_AT]      how many tracks, signals,
+ *     bytes[SIGNALBOX_ROUTES_AT], bytes[SIGNALBOX_ENTRIES_AT]      routes and entries there are
+ *     bytes + SIGNALBOX_TRACK(t)                                   a track: its kind, and its numbers
+ *     bytes[SIGNALBOX_SIGNAL(s)]                                   a signal: its home
+ *     bytes + SIGNALBOX_ROUTE(r)                                   a route: its start signal, then each list from
+ *                                                                  SIGNALBOX_PATH_AT .. SIGNALBOX_RELEASES_AT on
+ *     bytes + SIGNALBOX_ENTRY(e)                                   an entry: its track, and its clear list from
+ *                                                                  SIGNALBOX_ENTRY_CLEAR_AT on */
+#define SIGNALBOX_IMAGE 10852
+#define SIGNALBOX_TRACKS_AT 0
+#define SIGNALBOX_SIGNALS_AT 257
+#define SIGNALBOX_ROUTES_AT 290
+#define SIGNALBOX_ENTRIES_AT 9795
+#define SIGNALBOX_TRACK_SIZE 4
+#define SIGNALBOX_RELEASE_SIZE 2
+#define SIGNALBOX_ROUTE_SIZE 198
+#define SIGNALBOX_ENTRY_SIZE 66
+#define SIGNALBOX_PATH_AT 1
+#define SIGNALBOX_CLEAR_AT 34
+#define SIGNALBOX_NORMAL_AT 99
+#define SIGNALBOX_REVERSE_AT 116
+#define SIGNALBOX_RELEASES_AT 133
+#define SIGNALBOX_ENTRY_CLEAR_AT 1
+#define SIGNALBOX_TRACK(t) (SIGNALBOX_TRACKS_AT + 1 + SIGNALBOX_TRACK_SIZE * (t))
+#define SIGNALBOX_SIGNAL(s) (SIGNALBOX_SIGNALS_AT + 1 + (s))
+#define SIGNALBOX_ROUTE(r) (SIGNALBOX_ROUTES_AT + 1 + SIGNALBOX_ROUTE_SIZE * (r))
+#define SIGNALBOX_ENTRY(e) (SIGNALBOX_ENTRIES_AT + 1 + SIGNALBOX_ENTRY_SIZE * (e))
+
+typedef struct signalbox_image {
+    uint8_t bytes[SIGNALBOX_IMAGE];
+} signalbox_image;
 
 /* The state, lent as its arrays: s.cells, s.holds and s.unfinished.
  *
@@ -114,21 +159,23 @@ typedef struct signalbox_state {
 #define SIGNALBOX_ENTER 3   /* entry, train */
 #define SIGNALBOX_MOVE 4    /* train, 0 */
 
-/* A code is an answer, a form or a verdict as one number of 64 bits. The lowest byte is its number, by which all
- * codes are told apart; the bytes above it are its values in the order of the printed line, and nothing stands above
- * these. SIGNALBOX_VALUE(code, 0) is the first. A value of 0 is a number like any other: the first track is track 0.
- * Above the number of a form stands its offset, 16 bits wide, and above that of a broken rule its row.
+/* A code is an answer, a form, a verdict or what comes of writing, as one number of 64 bits. The lowest byte is its
+ * number, by which all codes are told apart; the bytes above it are its values in the order of the printed line, and
+ * nothing stands above these. SIGNALBOX_VALUE(code, 0) is the first. A value of 0 is a number like any other: the first
+ * track is track 0. Above the number of a form stands its offset, 16 bits wide, and above that of a broken rule its
+ * row. Above SIGNALBOX_WRITTEN stands the length of the file, 16 bits wide.
  *
  *     0x03020167 is "moved 1 from 2 to 3"
  *     0x020d is "refused 13 track 2"
  *     0x0c03 is "form 3 at 12"
  *     0x01d0 is "rule 8 row 1"
  *
- * SIGNALBOX_OFFSET is for forms, SIGNALBOX_RULE and SIGNALBOX_ROW are for broken rules. The macros take a code of
- * type uint64_t, and give the same type. */
+ * SIGNALBOX_OFFSET is for forms, SIGNALBOX_LENGTH for a file that is written (it is 0 where none is), SIGNALBOX_RULE
+ * and SIGNALBOX_ROW are for broken rules. The macros take a code of type uint64_t, and give the same type. */
 #define SIGNALBOX_NUMBER(code) ((code) & 255u)
 #define SIGNALBOX_VALUE(code, i) (((code) >> (8 * ((i) + 1))) & 255u)
 #define SIGNALBOX_OFFSET(code) (((code) >> 8) & 65535u)
+#define SIGNALBOX_LENGTH(code) (((code) >> 8) & 65535u)
 #define SIGNALBOX_RULE(code) (SIGNALBOX_NUMBER(code) - SIGNALBOX_ACCEPTED)
 #define SIGNALBOX_ROW(code) SIGNALBOX_VALUE(code, 0)
 
@@ -139,6 +186,7 @@ typedef struct signalbox_state {
     (SIGNALBOX_NUMBER(code) >= SIGNALBOX_REFUSED_ILL_FORMED && SIGNALBOX_NUMBER(code) <= SIGNALBOX_REFUSED_RED)
 #define SIGNALBOX_IS_ACCIDENT(code) \
     (SIGNALBOX_NUMBER(code) >= SIGNALBOX_ACCIDENT_COLLISION && SIGNALBOX_NUMBER(code) <= SIGNALBOX_ACCIDENT_DERAILMENT)
+#define SIGNALBOX_IS_WRITTEN(code) (SIGNALBOX_NUMBER(code) == SIGNALBOX_WRITTEN)
 #define SIGNALBOX_IS_DEED(code) \
     (SIGNALBOX_NUMBER(code) >= SIGNALBOX_GRANTED && SIGNALBOX_NUMBER(code) <= SIGNALBOX_LEFT)
 
@@ -152,8 +200,13 @@ typedef struct signalbox_state {
 #define SIGNALBOX_FORM_NOT_RISING 4 /* form 4 at <offset>: a list that doesn't rise strictly */
 #define SIGNALBOX_FORM_LEFT_OVER 5  /* form 5 at <offset>: bytes are left over; the first of them */
 
-/* Too little room for what is to be written. No line is printed for it. */
+/* Too little room for what is to be written, lines, codes or a plan file. No line is printed for it. */
 #define SIGNALBOX_NO_ROOM 6
+
+/* What comes of signalbox_write beside that. No line is printed for these either. */
+#define SIGNALBOX_NO_FILE 7   /* there is no file that reads as the image */
+#define SIGNALBOX_WRITTEN 120 /* the file is written: SIGNALBOX_IS_WRITTEN(code), and SIGNALBOX_LENGTH(code) is its
+                                 length. The code itself is more than this number */
 
 /* Refusals: the event is not done, and the state stays as it was. */
 #define SIGNALBOX_REFUSED_ILL_FORMED 10    /* refused 10: the state is not well formed */
@@ -234,6 +287,18 @@ void signalbox_fresh(uint8_t cells[SIGNALBOX_CELLS], uint64_t holds[SIGNALBOX_HO
 
 /* Whether a file is a plan: 0, or its form. */
 uint64_t signalbox_read(const uint8_t *file, size_t file_length);
+
+/* Reads a plan file into an image: gives 0, and the image is the plan's; or gives the form, and the image is as it
+ * was. */
+uint64_t signalbox_load(const uint8_t *file, size_t file_length, signalbox_image *image);
+
+/* Writes an image as the plan file that it is, at the front of out; past the file out is as it was. Gives the code of
+ * SIGNALBOX_WRITTEN with the length. Or out stays as it was, and it gives SIGNALBOX_NO_FILE where no file reads as the
+ * image, whatever the room, and after that SIGNALBOX_NO_ROOM where the file is longer than the room. No call gives the
+ * length beforehand: SIGNALBOX_LARGEST_PLAN bytes are enough for every plan. out must not overlap the image: the file
+ * would be said to be written, and be wrong. A plan that breaks rules is written like any other. What was loaded is
+ * written as the same bytes, and what was written loads as the same image. */
+uint64_t signalbox_write(const signalbox_image *image, uint8_t *out, size_t room);
 
 /* Whether a file is a plan that is accepted: SIGNALBOX_ACCEPTED, or the rule that it breaks, or its form. */
 uint64_t signalbox_check(const uint8_t *file, size_t file_length);

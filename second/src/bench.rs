@@ -5,11 +5,11 @@ use crate::book::MODEL;
 use crate::generate::largest::{busy, largest};
 use crate::generate::{accepted, events};
 use crate::model::answer::Answer;
-use crate::model::plan::Plan;
+use crate::model::plan::{Plan, LARGEST_FILE};
 use crate::model::state::{Arrays, State};
 use crate::model::step::step;
 use crate::random::Random;
-use crate::subject::Subject;
+use crate::subject::{Fenced, Memory, Subject};
 use crate::writing::write;
 use std::hint::black_box;
 use std::time::Instant;
@@ -28,9 +28,11 @@ struct Load {
 /// Some work, in nanoseconds for each of its units.
 type Work = fn(&dyn Subject, &Load) -> f64;
 
-const WORKS: [(&str, Work); 4] = [
+const WORKS: [(&str, Work); 6] = [
     ("reading, per plan", time_reading),
     ("checking, per plan", time_checking),
+    ("loading, per plan", time_loading),
+    ("writing, per plan", time_writing),
     ("step, per event", time_steps),
     ("whole run, per event", time_run),
 ];
@@ -83,8 +85,13 @@ fn per_unit(units: usize, work: impl FnOnce()) -> f64 {
     start.elapsed().as_nanos() as f64 / units as f64
 }
 
+/// How often a plan is taken, so that each takes about as long.
+fn times(load: &Load) -> usize {
+    10_000_000 / (load.file.len() + 100)
+}
+
 fn time_reading(subject: &dyn Subject, load: &Load) -> f64 {
-    let times = 10_000_000 / (load.file.len() + 100);
+    let times = times(load);
     per_unit(times, || {
         for _ in 0..times {
             black_box(subject.read(black_box(&load.file)));
@@ -93,11 +100,38 @@ fn time_reading(subject: &dyn Subject, load: &Load) -> f64 {
 }
 
 fn time_checking(subject: &dyn Subject, load: &Load) -> f64 {
-    let times = 10_000_000 / (load.file.len() + 100);
+    let times = times(load);
     let mut ready = subject.prepare(&load.file);
     per_unit(times, || {
         for _ in 0..times {
             black_box(ready.check());
+        }
+    })
+}
+
+/// From the file into an image.
+fn time_loading(subject: &dyn Subject, load: &Load) -> f64 {
+    let times = times(load);
+    let mut lent = Fenced::marked(0);
+    per_unit(times, || {
+        for _ in 0..times {
+            let said = subject.load(black_box(&load.file), black_box(&mut lent));
+            said.expect("bench plans can be loaded");
+        }
+    })
+}
+
+/// From an image that was loaded, into a buffer that is long enough for any.
+fn time_writing(subject: &dyn Subject, load: &Load) -> f64 {
+    let times = times(load);
+    let mut lent = Fenced::marked(0);
+    let mut memory = Memory::marked(LARGEST_FILE, 0);
+    let said = subject.load(&load.file, &mut lent);
+    said.expect("bench plans can be loaded");
+    per_unit(times, || {
+        for _ in 0..times {
+            let said = subject.write(black_box(&mut lent), black_box(&mut memory));
+            assert_eq!(said, Ok(load.file.len()));
         }
     })
 }

@@ -2,12 +2,15 @@
 //! exchanging one of them while the right functions stay free of switches.
 
 use crate::model::answer::{Answer, Refusal, Verdict};
+use crate::model::image::{self, Image, Unwritten};
 use crate::model::plan::Plan;
 use crate::model::reading::{self, Fault, Form};
 use crate::model::rules::{self, Broken};
 use crate::model::state::{Arrays, State};
 use crate::model::step;
-use crate::subject::{unfinished, Kept, Lent, Prepared, Reason, Subject, EVENT, LINE};
+use crate::subject::{
+    unfinished, Fenced, Kept, Lent, Memory, Prepared, Reason, Subject, EVENT, LINE,
+};
 use std::fmt::Display;
 use std::io::Write;
 
@@ -25,6 +28,12 @@ pub struct Asked<'a> {
 /// A call for many events: it writes answers, or bytes of their lines.
 pub type Call<T> = fn(&Book, &Asked, &mut Kept) -> Lent<T>;
 
+/// Loads the plan of a file into an image.
+pub type Loader = fn(&Book, &[u8], &mut Image) -> Result<(), Reason>;
+
+/// Writes an image as its file.
+pub type Writer = fn(&Image, &mut Memory) -> Result<usize, Reason>;
+
 #[derive(Clone, Copy)]
 pub struct Book {
     pub read: fn(&[u8]) -> Result<Plan, Fault>,
@@ -40,6 +49,8 @@ pub struct Book {
     pub finish: Call<u8>,
     /// The line for the plan.
     pub open: fn(Verdict, usize) -> Lent<u8>,
+    pub load_image: Loader,
+    pub write: Writer,
 }
 
 /// The document, and the face of the box.
@@ -55,6 +66,8 @@ pub const MODEL: Book = Book {
     feed: Book::any_feed,
     finish: Book::any_finish,
     open: Book::opening,
+    load_image: Book::any_load,
+    write: Book::any_write,
 };
 
 impl Book {
@@ -182,6 +195,20 @@ impl Book {
         put_line(&mut line, verdict);
         line
     }
+
+    /// An image of what reading leaves of a file.
+    pub fn any_load(&self, file: &[u8], image: &mut Image) -> Result<(), Reason> {
+        let plan = (self.read)(file).map_err(|fault| Reason::Unreadable(fault.form))?;
+        image::show(&plan, image);
+        Ok(())
+    }
+
+    pub fn any_write(image: &Image, memory: &mut Memory) -> Result<usize, Reason> {
+        image::write(image, memory.lent()).map_err(|unwritten| match unwritten {
+            Unwritten::NoPlan => Reason::NoPlan,
+            Unwritten::NoRoom => Reason::NoRoom,
+        })
+    }
 }
 
 /// The last reason.
@@ -228,6 +255,14 @@ impl Subject for Book {
 
     fn run(&self, plan: &[u8], events: &[u8]) -> Vec<u8> {
         (self.whole)(self, plan, events)
+    }
+
+    fn load(&self, plan: &[u8], lent: &mut Fenced) -> Result<(), Reason> {
+        (self.load_image)(self, plan, &mut lent.image)
+    }
+
+    fn write(&self, lent: &mut Fenced, memory: &mut Memory) -> Result<usize, Reason> {
+        (self.write)(&lent.image, memory)
     }
 }
 

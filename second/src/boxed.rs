@@ -1,15 +1,17 @@
 //! The box itself as a subject, through the C interface of `libsignalbox.a`. Everything that concerns that interface
 //! stands in this file and nowhere else.
 //!
-//! A code is a number of 64 bits: its lowest byte is the document's number (1 to 5 a form, 10 to 19 a refusal, 40 to 42
-//! an accident, 100 to 104 what changes the state, 200 and above a verdict), and the bytes above it are the values.
+//! A code is a number of 64 bits: its lowest byte is the document's number (1 to 5 a form, 6 too little room, 7 an image
+//! that is no plan's, 10 to 19 a refusal, 40 to 42 an accident, 100 to 104 what changes the state, 120 a file written, 200
+//! and above a verdict), and the bytes above it are the values.
 
 use crate::model::answer::{Accident, Answer, Refusal, Verdict};
+use crate::model::image::Image;
 use crate::model::plan::{MOST_SIGNALS, MOST_TRACKS};
 use crate::model::reading::Form;
 use crate::model::rules::Broken;
 use crate::model::state::Arrays;
-use crate::subject::{Kept, Lent, Prepared, Reason, Subject, EVENT, LINE, PAST};
+use crate::subject::{Fenced, Kept, Lent, Memory, Prepared, Reason, Subject, EVENT, LINE, PAST};
 
 /// Where the lies and the signals start among the cells, and how many cells there are; trains start at 0.
 pub const LIES: usize = MOST_TRACKS;
@@ -97,10 +99,12 @@ extern "C" {
         out: *mut u8,
         room: usize,
     ) -> Outcome;
+    fn signalbox_load(file: *const u8, length: usize, image: &mut Image) -> u64;
+    fn signalbox_write(image: *const Image, out: *mut u8, room: usize) -> u64;
 }
 
-/// Calls the box with a plan and, where it takes them, with the named arrays of a state, with bytes and with memory to
-/// be written.
+/// Calls the box with a plan and, where it takes them, with the named arrays of a state or an image, with bytes and with
+/// memory to be written.
 macro_rules! call {
     ($function:ident, $plan:expr $(, $state:ident: $($array:ident)+)? $(; $($bytes:ident)+)? $(=> $out:ident)?) => {
         // Safety: all that is lent is lent for the call alone, slices with their lengths, and overlaps nothing.
@@ -183,9 +187,12 @@ fn lend_bytes(room: usize, call: impl FnOnce(&mut [u8]) -> Outcome) -> Lent<u8> 
     lend(room, byte_mark, |byte| byte, call)
 }
 
-/// No byte of a line is above 127.
+/// No byte of a line is above 127, and none from 11 to 31. Marks are of both kinds, so that no bit can be set unseen.
 fn byte_mark(at: usize) -> u8 {
-    at as u8 | 128
+    match at % 2 {
+        0 => at as u8 | 128,
+        _ => 11 + (at % 21) as u8,
+    }
 }
 
 /// No code has its highest byte.
@@ -200,7 +207,10 @@ const PIECE: usize = 4096;
 
 impl Subject for Boxed {
     fn read(&self, plan: &[u8]) -> Option<Form> {
-        form(call!(signalbox_read, plan))
+        let code = call!(signalbox_read, plan);
+        let form = form(code);
+        assert!(form.is_some() || code == 0, "the box read with code {code}");
+        form
     }
 
     fn prepare<'a>(&'a self, plan: &'a [u8]) -> Box<dyn Prepared + 'a> {
@@ -233,6 +243,25 @@ impl Subject for Boxed {
         });
         lines
     }
+
+    fn load(&self, plan: &[u8], lent: &mut Fenced) -> Result<(), Reason> {
+        let code = call!(signalbox_load, plan, lent: image);
+        must_be_whole(lent);
+        reason(code).map_or(Ok(()), Err)
+    }
+
+    fn write(&self, lent: &mut Fenced, memory: &mut Memory) -> Result<usize, Reason> {
+        let out = memory.lent();
+        // Safety: the image and the memory are lent for the call alone, the memory with its length, and don't overlap.
+        let code = unsafe { signalbox_write(&raw mut lent.image, out.as_mut_ptr(), out.len()) };
+        must_be_whole(lent);
+        written(code)
+    }
+}
+
+fn must_be_whole(lent: &Fenced) {
+    let is_whole = lent.is_whole();
+    assert!(is_whole, "the box wrote beside the image that it was lent");
 }
 
 /// A plan as its bytes: the box reads it at each call.
@@ -299,6 +328,16 @@ fn reason(code: u64) -> Option<Reason> {
         6 => Some(Reason::NoRoom),
         10 => Some(Reason::NotWellFormed),
         _ => Some(form(code).map_or(Reason::Strange(code), Reason::Unreadable)),
+    }
+}
+
+/// How long the file is that was written, or why none was. The length has 16 bits, and nothing stands above it.
+fn written(code: u64) -> Result<usize, Reason> {
+    match (byte(code, 0), code >> 8) {
+        (120, length @ 0..=0xFFFF) => Ok(length as usize),
+        (7, 0) => Err(Reason::NoPlan),
+        (6, 0) => Err(Reason::NoRoom),
+        _ => Err(Reason::Strange(code)),
     }
 }
 

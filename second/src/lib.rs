@@ -1,5 +1,6 @@
-//! An independent second program for the junction box. The model follows document 01 alone; its
-//! readings of that document are listed in `README.md`, shown at the top of `main.rs`.
+//! An independent second program for the junction box. The model follows document 01 and, for the
+//! plan in memory, No. 1 of document 02 alone; its readings of them are listed in `README.md`, shown
+//! at the top of `main.rs`.
 
 pub mod accepted;
 pub mod bench;

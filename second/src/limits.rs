@@ -1,8 +1,9 @@
-//! The sizes that this program goes by, each by its name: what the document allows of each thing, and what the box's
-//! interface has. They are its own, so that they can be compared with those of the box.
+//! The sizes that this program goes by, each by its name: what the document allows of each thing, where each thing stands
+//! in an image, and what the box's interface has. They are its own, so that they can be compared with those of the box.
 
 #[cfg(feature = "boxed")]
 use crate::boxed;
+use crate::model::image;
 use crate::model::plan::{self, LARGEST_FILE};
 use crate::subject::LINE;
 
@@ -25,6 +26,21 @@ pub fn all() -> Vec<(String, usize)> {
     }
     sizes.push(("largest-file".to_string(), LARGEST_FILE));
     sizes.push(("line".to_string(), LINE));
+    let of_image = [
+        ("image", image::IMAGE_SIZE),
+        ("signals-at", image::SIGNALS_AT),
+        ("routes-at", image::ROUTES_AT),
+        ("entries-at", image::ENTRIES_AT),
+        ("route-size", image::ROUTE_SIZE),
+        ("entry-size", image::ENTRY_SIZE),
+        ("path-at", image::PATH_AT),
+        ("clear-at", image::CLEAR_AT),
+        ("normal-at", image::NORMAL_AT),
+        ("reverse-at", image::REVERSE_AT),
+        ("releases-at", image::RELEASES_AT),
+        ("entry-clear-at", image::ENTRY_CLEAR_AT),
+    ];
+    sizes.extend(of_image.map(|(name, size)| (name.to_string(), size)));
     #[cfg(feature = "boxed")]
     sizes.extend([
         ("lies-from".to_string(), boxed::LIES),

@@ -1,6 +1,8 @@
-//! What can be held against the model: anything that reads, checks, steps and runs.
+//! What can be held against the model: anything that reads, checks, steps and runs, and that loads
+//! plans into images and writes them.
 
 use crate::model::answer::{Answer, Verdict};
+use crate::model::image::{Image, IMAGE_SIZE};
 use crate::model::reading::Form;
 use crate::model::state::Arrays;
 use std::fmt;
@@ -56,6 +58,8 @@ pub enum Reason {
     Unreadable(Form),
     NotWellFormed,
     NoRoom,
+    /// An image that no file reads as.
+    NoPlan,
     /// A code that is no reason.
     Strange(u64),
 }
@@ -66,6 +70,7 @@ impl fmt::Display for Reason {
             Reason::Unreadable(form) => form.fmt(out),
             Reason::NotWellFormed => out.write_str("reason 10"),
             Reason::NoRoom => out.write_str("reason 6"),
+            Reason::NoPlan => out.write_str("reason 7"),
             Reason::Strange(code) => write!(out, "code {code}, which is no reason"),
         }
     }
@@ -112,6 +117,100 @@ impl<T: Copy> Lent<T> {
     }
 }
 
+/// The highest byte that the file or the image of a plan can have.
+pub const HIGHEST: u8 = 64;
+
+/// What stands in memory that is lent for a plan, before the call. From one place to the next the top
+/// bit is another, and every bit is set in some marks and not in others, so that none can be set or
+/// cleared unseen. Another `fill` gives other marks. No byte of a plan is among them; but of every
+/// fourth fill they are all the numbers that a byte can be, 0 too.
+pub fn mark(fill: u8, at: usize) -> u8 {
+    let mark = fill.wrapping_add(at as u8).rotate_right(1);
+    match mark {
+        0..=127 if !is_any(fill) => HIGHEST + 1 + mark % (127 - HIGHEST),
+        _ => mark,
+    }
+}
+
+/// Whether the marks of this fill may be bytes of a plan.
+pub fn is_any(fill: u8) -> bool {
+    fill % 4 == 3
+}
+
+/// An image that is lent, with a fence on either side of it, so that a write beside it is noticed.
+#[derive(Clone, Debug, PartialEq, Eq)]
+#[repr(C)]
+pub struct Fenced {
+    fence_before: [u8; 8],
+    pub image: Image,
+    fence_behind: [u8; 8],
+}
+
+impl Fenced {
+    const BEFORE: [u8; 8] = [0xA5, 0x5A, 0xC3, 0x3C, 0x99, 0x66, 0xF0, 0x0F];
+    const BEHIND: [u8; 8] = [0x3C, 0xC3, 0x5A, 0xA5, 0x0F, 0xF0, 0x66, 0x99];
+
+    pub fn of(image: &Image) -> Self {
+        Fenced {
+            fence_before: Self::BEFORE,
+            image: *image,
+            fence_behind: Self::BEHIND,
+        }
+    }
+
+    /// Memory for an image that holds nothing but marks.
+    pub fn marked(fill: u8) -> Self {
+        let mut lent = Fenced::of(&[0; IMAGE_SIZE]);
+        for (at, byte) in lent.image.iter_mut().enumerate() {
+            *byte = mark(fill, at);
+        }
+        lent
+    }
+
+    pub fn is_whole(&self) -> bool {
+        self.fence_before == Self::BEFORE && self.fence_behind == Self::BEHIND
+    }
+}
+
+/// Memory that is lent for a file, full of marks, with [`PAST`] cells more on either side of it.
+#[derive(Clone, Debug, PartialEq, Eq)]
+pub struct Memory {
+    cells: Vec<u8>,
+}
+
+impl Memory {
+    pub fn marked(room: usize, fill: u8) -> Self {
+        let cells = 0..PAST + room + PAST;
+        Memory {
+            cells: cells.map(|at| mark(fill, at)).collect(),
+        }
+    }
+
+    pub fn room(&self) -> usize {
+        self.cells.len() - 2 * PAST
+    }
+
+    /// All that a writer may touch.
+    pub fn lent(&mut self) -> &mut [u8] {
+        let end = PAST + self.room();
+        &mut self.cells[PAST..end]
+    }
+
+    /// Writes bytes from this one on, past the lent ones too as far as there are cells.
+    pub fn put(&mut self, at: usize, bytes: &[u8]) {
+        for (cell, &byte) in self.cells[PAST..].iter_mut().skip(at).zip(bytes) {
+            *cell = byte;
+        }
+    }
+
+    /// The first byte that is another here and there, counted from the first lent one.
+    pub fn first_difference(&self, other: &Memory) -> Option<(isize, u8, u8)> {
+        let mut pairs = self.cells.iter().zip(&other.cells).zip(-(PAST as isize)..);
+        let found = pairs.find(|((one, other), _)| one != other);
+        found.map(|((&one, &other), at)| (at, one, other))
+    }
+}
+
 /// A box, whatever it is made of. All that is known of it goes through these calls.
 pub trait Subject {
     /// Reading alone: the form of an unreadable plan.
@@ -125,6 +224,13 @@ pub trait Subject {
 
     /// A whole run, from the bytes of `plan.bin` and of standard input to the printed lines.
     fn run(&self, plan: &[u8], events: &[u8]) -> Vec<u8>;
+
+    /// Loads a plan from its file into an image, which stays as it was if the file is no plan.
+    fn load(&self, plan: &[u8], lent: &mut Fenced) -> Result<(), Reason>;
+
+    /// Writes an image as its file and hands back how long that is. The image stays as it is, and
+    /// the memory too where nothing is written.
+    fn write(&self, lent: &mut Fenced, memory: &mut Memory) -> Result<usize, Reason>;
 }
 
 /// A plan in the shape in which a subject keeps it between calls. Where a call plays events, the

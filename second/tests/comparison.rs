@@ -3,15 +3,19 @@
 use second::book::{Book, MODEL};
 use second::compare::counts::Counts;
 use second::compare::driver::hunt;
+use second::compare::files;
 use second::compare::history::{check, check_agreement, play};
 use second::compare::minima::report;
 use second::compare::shrink::shrink;
 use second::compare::trouble::{trouble, Work};
 use second::generate::case::case;
+use second::generate::images::Writing;
 use second::model::answer::{Answer, Refusal};
+use second::model::image::{Image, CLEAR_AT, IMAGE_SIZE, PATH_AT, ROUTES_AT};
+use second::model::reading::Form;
 use second::model::state::Arrays;
 use second::mutants;
-use second::subject::{Subject, EVENT};
+use second::subject::{Fenced, Kept, Memory, Prepared, Reason, Subject, EVENT};
 
 const SLIPS: [&str; 3] = [
     "a point is released when the train arrives on it",
@@ -48,6 +52,107 @@ fn the_three_slips_are_caught_from_outside_alone() {
         let book = mutant(name);
         let caught = (0..300).any(|seed| outside(&book, seed).is_err());
         assert!(caught, "{name}");
+    }
+}
+
+/// Wrong writers and loaders that show when a plan is loaded and written again.
+const LOADED_AND_WRITTEN: [&str; 10] = [
+    "write says 7 for everything",
+    "write says 7 for a plan that breaks a rule",
+    "write says 6 for a buffer as long as the file",
+    "write does nothing and says that it is done",
+    "write says one byte too many",
+    "write begins the signals one byte early",
+    "load leaves what stood past the counts",
+    "load leaves the last byte of the image",
+    "load counts one too few in the last list of a route",
+    "load sets the top bit of every byte where there is no plan",
+];
+
+/// Those that show when the one file that an image can be is loaded.
+const WRITTEN_AND_LOADED: [&str; 11] = [
+    "write says 7 for everything",
+    "write says 6 before 7",
+    "write says 6 in place of 7",
+    "write says 6 for a buffer as long as the file",
+    "write says 7 and empties the buffer",
+    "write begins the signals one byte early",
+    "write takes any byte past a count",
+    "write takes a clear list that does not rise",
+    "write does not look at the last byte of the image",
+    "load leaves what stood past the counts",
+    "load refuses a plan that breaks a rule",
+];
+
+/// The images that are written in a case.
+fn images(seed: u64) -> Vec<(Image, Writing)> {
+    let case = case(seed);
+    let mut own = Fenced::of(&[0; IMAGE_SIZE]);
+    // Without a plan it stays empty.
+    let _ = MODEL.load(&case.plan, &mut own);
+    let image = |writing: Writing| {
+        let mut image = [0; IMAGE_SIZE];
+        writing.show(&own.image, &mut image);
+        (image, writing)
+    };
+    case.writings.into_iter().map(image).collect()
+}
+
+/// A plan loaded and written again, without any look at the model.
+fn loads_well(book: &Book, seed: u64) -> bool {
+    let case = case(seed);
+    files::outside_load(book, &case.plan, case.fill).is_ok()
+}
+
+/// Images and what their counts ask for, without any look at the model.
+fn writes_well(book: &Book, seed: u64) -> bool {
+    let is_well = |(image, writing): &(Image, Writing)| {
+        files::outside_write(book, image, writing.fill).is_ok()
+    };
+    images(seed).iter().all(is_well)
+}
+
+#[test]
+fn wrong_loaders_and_writers_are_caught_from_outside_alone() {
+    let checks: [(fn(&Book, u64) -> bool, &[&str]); 2] = [
+        (loads_well, &LOADED_AND_WRITTEN),
+        (writes_well, &WRITTEN_AND_LOADED),
+    ];
+    for (is_well, names) in checks {
+        assert_eq!((0..300).find(|&seed| !is_well(&MODEL, seed)), None);
+        for name in names {
+            let book = mutant(name);
+            assert!((0..300).any(|seed| !is_well(&book, seed)), "{name}");
+        }
+    }
+}
+
+/// The comparison of a load looks at no write of the model, and that of writes at no load: a wrong one
+/// shows there from outside alone.
+#[test]
+fn loads_and_writes_are_compared_from_outside_too() {
+    let load = |book: &Book, seed: u64| {
+        let case = case(seed);
+        files::load(book, &case.plan, case.fill).is_ok()
+    };
+    let write = |book: &Book, seed: u64| {
+        let mut images = images(seed).into_iter();
+        images.all(|(image, writing)| files::write(book, &image, &writing).is_ok())
+    };
+    assert!((0..100).all(|seed| load(&MODEL, seed) && write(&MODEL, seed)));
+    for name in [
+        "write says 7 for everything",
+        "write begins the signals one byte early",
+    ] {
+        let book = mutant(name);
+        assert!((0..100).any(|seed| !load(&book, seed)), "{name}");
+    }
+    for name in [
+        "load leaves what stood past the counts",
+        "load refuses a plan that breaks a rule",
+    ] {
+        let book = mutant(name);
+        assert!((0..300).any(|seed| !write(&book, seed)), "{name}");
     }
 }
 
@@ -118,6 +223,67 @@ fn an_input_in_pieces_is_made_small_too() {
         panic!("only the start of a session shows it");
     };
     assert_eq!(memory.state.trains, Arrays::fresh().trains);
+}
+
+#[test]
+fn an_image_is_made_small_too() {
+    let Work::Write(writing) = made_small("write takes any byte past a path") else {
+        panic!("only an image shows it");
+    };
+    assert_eq!((writing.changes.len(), writing.rooms.len()), (1, 1));
+    // Nothing before the path of the first route is left.
+    let [(at, _)] = writing.changes[..] else {
+        panic!("it is one byte");
+    };
+    let path = ROUTES_AT + 1 + PATH_AT..ROUTES_AT + 1 + CLEAR_AT;
+    assert!(path.contains(&at), "byte {at}");
+    let book = mutant("write says 6 for a buffer above 100,000 bytes");
+    let (_, mismatch) = hunt(&book, 1, 3000).expect("it is caught");
+    let (plan, work) = shrink(&book, &mismatch.plan, &mismatch.work);
+    let Work::Write(writing) = work else {
+        panic!("only a very long buffer shows it");
+    };
+    assert_eq!((plan.len(), writing.rooms), (8, vec![100_001]));
+    let Work::Load(_) = made_small("load leaves what stood past the signals") else {
+        panic!("only a load shows it");
+    };
+}
+
+/// The model, but writing alters the image that it is lent.
+struct Scribbler;
+
+impl Subject for Scribbler {
+    fn read(&self, plan: &[u8]) -> Option<Form> {
+        MODEL.read(plan)
+    }
+
+    fn prepare<'a>(&'a self, plan: &'a [u8]) -> Box<dyn Prepared + 'a> {
+        MODEL.prepare(plan)
+    }
+
+    fn fresh(&self, memory: &mut Kept) {
+        MODEL.fresh(memory);
+    }
+
+    fn run(&self, plan: &[u8], events: &[u8]) -> Vec<u8> {
+        MODEL.run(plan, events)
+    }
+
+    fn load(&self, plan: &[u8], lent: &mut Fenced) -> Result<(), Reason> {
+        MODEL.load(plan, lent)
+    }
+
+    fn write(&self, lent: &mut Fenced, memory: &mut Memory) -> Result<usize, Reason> {
+        let said = MODEL.write(lent, memory);
+        lent.image[IMAGE_SIZE - 1] ^= 1;
+        said
+    }
+}
+
+#[test]
+fn an_image_that_is_altered_is_noticed() {
+    let (_, mismatch) = hunt(&Scribbler, 1, 10).expect("it is caught");
+    assert!(mismatch.trouble.found.contains("byte 10851 of the image"));
 }
 
 /// The work on which a mutant still goes wrong when it has been made small.

@@ -2,9 +2,11 @@
 
 use second::generate::case::case;
 use second::generate::faults::faulty;
+use second::generate::images::{Base, Writing};
 use second::generate::largest::{busy, largest};
 use second::generate::states::{agreeing, not_well_formed, well_formed};
 use second::generate::{accepted, broken::broken, wild::wild};
+use second::model::image::IMAGE_SIZE;
 use second::model::plan::LARGEST_FILE;
 use second::model::reading::read;
 use second::model::rules::check;
@@ -50,6 +52,23 @@ fn broken_and_wild_plans_can_be_read() {
 fn faulty_files_cannot_be_read() {
     let readable = |seed: &u64| read(&faulty(&mut Random::new(*seed))).is_ok();
     assert_eq!((0..1000).find(readable), None);
+}
+
+#[test]
+fn a_plans_own_image_comes_first_with_a_buffer_of_its_length() {
+    for seed in 0..1000 {
+        let case = case(seed);
+        let [own, others @ ..] = case.writings.as_slice() else {
+            panic!("nothing is written in case {seed}");
+        };
+        if read(&case.plan).is_ok() {
+            assert_eq!((own.base, own.changes.len()), (Base::Plan, 0));
+            assert!(own.rooms.contains(&case.plan.len()), "seed {seed}");
+            assert!(others.len() >= 3, "seed {seed}");
+        }
+        let is_inside = |writing: &Writing| writing.changes.iter().all(|(at, _)| *at < IMAGE_SIZE);
+        assert!(case.writings.iter().all(is_inside), "seed {seed}");
+    }
 }
 
 #[test]

@@ -2,13 +2,12 @@
 use mathlib.Core.List.{List}
 use Prim.Native.Nat.{ℕ}
 use mathlib.Core.Path.{_≡_ as _is_, refl}
-use Rattle.lines.proofs.Once.{wrote-once}
+use Rattle.laws.specs.Written.{wrote-once, Wrote}
 use lib.ListN.{length}
 use Rattle.state.specs.Cells.{cellsSize, stateIn}
 use Rattle.state.proofs.Lent.{lent-once}
 use Rattle.bench.proofs.Served.{ended-once}
 use Rattle.reading.specs.Reading.{parse}
-use Rattle.lines.specs.Written.{Wrote}
 use Rattle.demands.specs.Session.{firstLine}
 use Rattle.bench.specs.Serving.{Ended}
 

@@ -13,8 +13,8 @@ use Rattle.state.specs.declared.State.{State}
 use Rattle.events.specs.Events.{eventsOf, wholeEvents, leftOver, unfinishedIn, unfinishedCells}
 use Rattle.events.proofs.Pieces.{events-length, whole-length, left-few, waiting-count}
 use Rattle.lines.specs.Lines.{lineMost}
-use Rattle.lines.specs.Written.{Wrote}
-use Rattle.lines.proofs.Once.{wrote-once}
+use Rattle.laws.specs.Written.{Wrote}
+use Rattle.laws.specs.Written.{wrote-once}
 use Rattle.demands.specs.Session.{stateAfter, firstLine, linesOf, Between, due, fed, ended, endLines}
 use Rattle.demands.proofs.Session.{sessions, none-after}
 use Rattle.codes.specs.Codes.{readCode}

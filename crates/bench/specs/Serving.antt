@@ -10,7 +10,7 @@ use Rattle.reading.specs.Reading.{Got}
 use Rattle.state.specs.declared.State.{State}
 use Rattle.events.specs.Events.{unfinishedCells}
 use Rattle.lines.specs.Lines.{lineMost}
-use Rattle.lines.specs.Written.{Wrote}
+use Rattle.laws.specs.Written.{Wrote}
 use Rattle.demands.specs.Session.{fed, ended, endLines}
 use Rattle.signalbox.specs.Face.{inTheWay, tooLong, standing, Feeds}
 use Rattle.io.specs.Counts.{Counts}

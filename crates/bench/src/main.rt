@@ -17,7 +17,7 @@ ghost use Prim.Native.Nat.{_≤_};
 ghost use lib.ListN.{length};
 ghost use Rattle.reading.specs.Reading.{parse};
 ghost use Rattle.lines.specs.Lines.{lineMost};
-ghost use Rattle.lines.specs.Written.{Wrote};
+ghost use Rattle.laws.specs.Written.{Wrote};
 ghost use Rattle.demands.specs.Session.{firstLine};
 ghost use Rattle.state.specs.Cells.{stateIn};
 ghost use Rattle.bench.specs.Serving.{pieceMost, linesMost, Serves, Took, Turned, ServedOn, Ended};

@@ -14,10 +14,17 @@ use Rattle.laws.specs.Search.{firstWith}
 use Rattle.plan.specs.Limits.{imageSize}
 use Rattle.plan.specs.Records.{Plan}
 use Rattle.plan.specs.File.{Readable}
+use Rattle.plan.specs.Image.{planOf}
 use Rattle.reading.specs.declared.Form.{Form}
 use Rattle.reading.specs.declared.Form.the-variants.{EndsEarly, BadCount, BadNumber, NotRising, LeftOver}
 use Rattle.reading.specs.Reading.{form, formNumber, formOffset, parse}
-use Rattle.reading.proofs.Meaning.{ends-early, bad-byte, left-over, longer-same, same-form}
+use Rattle.reading.proofs.Meaning.{ends-early, bad-byte, left-over, longer-same, same-form, readable-fits}
+use Rattle.images.proofs.Standing.{stands-for}
+use Rattle.writing.specs.declared.Unwritten.the-variants.{NoFile, NoRoom}
+use Rattle.writing.specs.declared.Written.{Written}
+use Rattle.writing.specs.declared.Written.the-variants.{Refused as Unwrote, Whole}
+use Rattle.writing.specs.Writing.{writtenNumber, writtenLength, fileIn, written}
+use Rattle.writing.proofs.Answers.{Outcome, unread, short, full, outcome}
 use Rattle.rules.specs.declared.Verdict.{Verdict}
 use Rattle.rules.specs.declared.Verdict.the-variants.{Accepted, Broken}
 use Rattle.rules.specs.Verdict.{Rule, rules, noRule, ruleOf, verdict, ruleNumber, ruleRow}
@@ -29,8 +36,8 @@ use Rattle.events.specs.declared.Answer.{Answer}
 use Rattle.events.specs.declared.Answer.the-variants.{Refused, Accident, Done}
 use Rattle.events.specs.Answers.{refusalNumber, refusalValues, harmNumber, harmValues, deedNumber, deedValues, answerNumber, answerValues}
 use Rattle.events.specs.Decide.{answer}
-use Rattle.codes.specs.Codes.{packed, answerCode, formCode, verdictCode}
-use Rattle.codes.specs.Decoding.{unpacked, Byte, ByteAnswer, ShortForm, Sort, nothing, aForm, tooLittle, anAnswer, aVerdict, Tells, Fitting, Apart, Decoding, Decoded}
+use Rattle.codes.specs.Codes.{packed, answerCode, formCode, verdictCode, writtenCode}
+use Rattle.codes.specs.Decoding.{unpacked, Byte, ByteAnswer, ShortForm, ShortFile, Sort, nothing, aForm, tooLittle, noFile, anAnswer, aLength, aVerdict, writtenSort, Tells, Fitting, Apart, Decoding, Decoded}
 use Rattle.codes.proofs.Coded.{verdict-coded}
 use Rattle.codes.proofs.Fits.{first-fits, events-fit, values-fit}
 
@@ -132,6 +139,43 @@ form-fits file f e =
     let k = length-take (imageSize + 1) file in
     omega arith
 
+-- What comes of writing. A file that is written is some plan's, and none is longer than the longest.
+
+written-byte : (w : Written) → Byte (writtenNumber w)
+written-byte (Unwrote NoFile) = lit≤ tt
+written-byte (Unwrote NoRoom) = lit≤ tt
+written-byte (Whole size) = lit≤ tt
+
+written-numbers : (w : Written) → ShortFile w → (writtenCode w % 256 ≡ writtenNumber w) × (writtenCode w / 256 ≡ writtenLength w)
+unfolding writtenCode
+written-numbers w h = let b = written-byte w in (omega arith, omega arith)
+
+writtenOf : ℕ → ℕ → Written
+writtenOf n size = firstWith writtenNumber (Whole size) (Unwrote NoFile ∷ Unwrote NoRoom ∷ Whole size ∷ []) n
+
+written-back : (w : Written) → writtenOf (writtenNumber w) (writtenLength w) ≡ w
+unfolding writtenOf firstWith
+written-back (Unwrote NoFile) = refl
+written-back (Unwrote NoRoom) = refl
+written-back (Whole size) = refl
+
+one-written : (w x : Written) → ShortFile w → ShortFile x → writtenCode w ≡ writtenCode x → w ≡ x
+one-written w x h k e =
+    let a = written-numbers w h in
+    let b = written-numbers x k in
+    let n : writtenNumber w ≡ writtenNumber x = sym (a .0) ∙ ap (λ c. c % 256) e ∙ b .0 in
+    let size : writtenLength w ≡ writtenLength x = sym (a .1) ∙ ap (λ c. c / 256) e ∙ b .1 in
+    sym (written-back w) ∙ rw (n, size) (written-back x)
+
+file-fits : (image : List ℕ) (room : ℕ) → length image ≡ imageSize → ShortFile (written image room)
+unfolding fileIn
+file-fits image room long = go (outcome image room)
+  where
+    go : {w : Written} → Outcome image room w → ShortFile w
+    go (unread n) = lit≤ tt
+    go (short y h) = lit≤ tt
+    go (full y h) = let ok = stands-for image long y .0 in omega (arith, readable-fits (planOf image) ok)
+
 -- Verdicts: no rule goes over more rows than a byte can count, and none that is broken has the number 0, which stands for accepted.
 
 rows-few : (l : List Rule) → All (λ rule. rule .rows ≤ 256) l → (k : ℕ) → getD l k noRule .rows ≤ 256
@@ -196,7 +240,8 @@ one-verdict p q R S e =
 -- The sorts lie apart: each byte is of the one sort that these bounds say.
 
 sortOf : ℕ → Sort
-sortOf b = cond (ltb b 1) nothing (cond (ltb b 6) aForm (cond (ltb b 7) tooLittle (cond (ltb b 200) anAnswer aVerdict)))
+sortOf b =
+    cond (ltb b 1) nothing (cond (ltb b 6) aForm (cond (ltb b 7) tooLittle (cond (ltb b 8) noFile (cond (ltb b 120) anAnswer (cond (ltb b 200) aLength aVerdict)))))
 
 answer-between : (b : ℕ) → Tells anAnswer b → (10 ≤ b) × (b ≤ 104)
 answer-between b (inl w) = (w .0, omega (arith, w .1))
@@ -208,10 +253,14 @@ unfolding sortOf
 sort-told nothing b h = rw h
 sort-told aForm b h = rw (le-ltb b 1 (h .0), lt-ltb b 6 (omega (arith, h .1)))
 sort-told tooLittle b h = rw h
+sort-told noFile b h = rw h
 sort-told anAnswer b h =
     let (low, high) = answer-between b h in
-    rw (le-ltb b 1 (omega arith), le-ltb b 6 (omega arith), le-ltb b 7 (omega arith), lt-ltb b 200 (omega arith))
-sort-told aVerdict b h = rw (le-ltb b 1 (omega (arith, h .0)), le-ltb b 6 (omega (arith, h .0)), le-ltb b 7 (omega (arith, h .0)), le-ltb b 200 (h .0))
+    rw (le-ltb b 1 (omega arith), le-ltb b 6 (omega arith), le-ltb b 7 (omega arith), le-ltb b 8 (omega arith), lt-ltb b 120 (omega arith))
+sort-told aLength b h = rw h
+sort-told aVerdict b h =
+    let low = h .0 in
+    rw (le-ltb b 1 (omega arith), le-ltb b 6 (omega arith), le-ltb b 7 (omega arith), le-ltb b 8 (omega arith), le-ltb b 120 (omega arith), le-ltb b 200 low)
 
 -- an answer's number
 number-range : (a : Answer) → Tells anAnswer (answerNumber a)
@@ -251,9 +300,17 @@ fitting = record {
   events = events-fit;
   answers = λ p R σ event w. (number-byte (answer p σ event), values-fit p R σ event w);
   forms = form-fits;
+  files = file-fits;
   rules = verdict-rule;
   rows = verdict-row;
 }
+
+-- of what sort the number of a writer's answer is
+written-sort : (w : Written) → Tells (writtenSort w) (writtenCode w % 256)
+unfolding writtenCode
+written-sort (Unwrote NoFile) = refl
+written-sort (Unwrote NoRoom) = refl
+written-sort (Whole size) = omega arith
 
 apart : Apart
 unfolding formCode
@@ -261,6 +318,7 @@ apart = record {
   one = λ s t b h k. sym (sort-told s b h) ∙ sort-told t b k;
   forms = λ f. let r = form-range f in let e : formCode f % 256 ≡ formNumber f = omega (arith, r .1) in rw e r;
   answers = λ a. rw (answer-number a) (number-range a);
+  written = written-sort;
   verdicts = λ p. let e = verdict-coded p in let h = verdict-rule p in (omega arith, omega arith);
 }
 
@@ -274,9 +332,11 @@ decoding = record {
   oneAnswer = one-answer;
   formNumbers = form-numbers;
   oneForm = one-form;
+  writtenNumbers = written-numbers;
+  oneWritten = one-written;
   verdictNumbers = verdict-numbers;
   oneVerdict = one-verdict;
 }
 
-decoded : Decoded
+pub decoded : Decoded
 decoded = record { fitting = fitting; apart = apart; decoding = decoding }

@@ -7,10 +7,13 @@ use Rattle.events.specs.declared.Harm.{Harm}
 use Rattle.events.specs.declared.Deed.{Deed}
 use Rattle.events.specs.declared.Answer.{Answer}
 use Rattle.reading.specs.declared.Form.{Form}
+use Rattle.writing.specs.declared.Unwritten.{Unwritten}
+use Rattle.writing.specs.declared.Written.{Written}
 use Rattle.rules.specs.declared.Verdict.{Verdict}
 use mathlib.Core.List.{[], _∷_}
 use Rattle.events.specs.declared.Answer.the-variants.{Refused, Accident, Done}
-use Rattle.codes.specs.Codes.{packed, answerCode, formCode, verdictCode}
+use Rattle.writing.specs.Writing.{unwrittenNumber}
+use Rattle.codes.specs.Codes.{packed, answerCode, formCode, verdictCode, writtenCode}
 
 pub pack-once : (number first second third r r₂ : ℕ)
     → (r ≡ packed (number ∷ first ∷ second ∷ third ∷ []))
@@ -53,6 +56,18 @@ pub offset-code-once : (number at r r₂ : ℕ)
     → (r₂ ≡ number + 256 * (at % 65536))
     → r is r₂
 offset-code-once number at r r₂ by-one by-other = equal-once _ _ _ by-one by-other
+
+pub unwritten-code-once : (why : Unwritten) (r r₂ : ℕ)
+    → (r ≡ unwrittenNumber why)
+    → (r₂ ≡ unwrittenNumber why)
+    → r is r₂
+unwritten-code-once why r r₂ by-one by-other = equal-once _ _ _ by-one by-other
+
+pub written-code-once : (written : Written) (r r₂ : ℕ)
+    → (r ≡ writtenCode written)
+    → (r₂ ≡ writtenCode written)
+    → r is r₂
+written-code-once written r r₂ by-one by-other = equal-once _ _ _ by-one by-other
 
 pub verdict-code-once : (verdict : Verdict) (r r₂ : ℕ)
     → (r ≡ verdictCode verdict)

@@ -5,6 +5,9 @@ use mathlib.Core.List.{List, [], _∷_}
 use Rattle.plan.specs.Records.{Plan}
 use Rattle.reading.specs.declared.Form.{Form}
 use Rattle.reading.specs.Reading.{Got, form, got, formNumber, formOffset}
+use Rattle.writing.specs.declared.Unwritten.the-variants.{NoRoom}
+use Rattle.writing.specs.declared.Written.{Written}
+use Rattle.writing.specs.Writing.{unwrittenNumber, writtenNumber, writtenLength}
 use Rattle.rules.specs.declared.Verdict.{Verdict}
 use Rattle.rules.specs.Verdict.{verdict, ruleNumber, ruleRow}
 use Rattle.events.specs.declared.Answer.{Answer}
@@ -27,9 +30,13 @@ formCode f = formNumber f + 256 * (formOffset f % 65536)
 unfoldable pub verdictCode : Verdict → ℕ
 verdictCode v = packed ((200 + ruleNumber v) ∷ ruleRow v ∷ [])
 
--- there is too little room for what is to be written: no number of document 01, and the one that document 02 gives to it
+-- what comes of writing a plan: its number, then the length of its file
+unfoldable pub writtenCode : Written → ℕ
+writtenCode w = writtenNumber w + 256 * (writtenLength w % 65536)
+
+-- there is too little room for what is to be written, whatever that is
 abbrev pub noRoom : ℕ
-noRoom = 6
+noRoom = unwrittenNumber NoRoom
 
 -- reading: 0 where the file is a plan
 unfoldable pub readCode : Got Plan → ℕ

@@ -6,11 +6,14 @@ use events::Refusal;
 use lists::wide;
 use reading::Form;
 use rules::Verdict;
+use writing::Unwritten;
+use writing::Written;
 ghost use mathlib.Core.Path.{_≡_};
 ghost use Prim.Native.Nat.{_+_, _*_, _%_, _<_};
 ghost use mathlib.Core.List.{[], _∷_};
 ghost use Rattle.events.specs.declared.Answer.the-variants.{Refused, Accident, Done};
-ghost use Rattle.codes.specs.Codes.{packed, answerCode, formCode, verdictCode};
+ghost use Rattle.writing.specs.Writing.{unwrittenNumber};
+ghost use Rattle.codes.specs.Codes.{packed, answerCode, formCode, verdictCode, writtenCode};
 
 // There is too little room for what is to be written.
 pub const NO_ROOM: u64 = 6;
@@ -94,6 +97,26 @@ fn offset_code(number: u64, at: usize) -> u64
     ensures { λ r. ⌜ r ≡ number + 256 * (at % 65536) ⌝ }
 {
     number + (at % 65536) as u64 * 256
+}
+
+// Why nothing is written.
+fn unwritten_code(why: Unwritten) -> u64
+    ensures { λ r. ⌜ r ≡ unwrittenNumber why ⌝ }
+{
+    match why {
+        Unwritten::NoFile => 7,
+        Unwritten::NoRoom => NO_ROOM,
+    }
+}
+
+// What comes of writing: its number, then the length of the file.
+pub fn written_code(written: Written) -> u64
+    ensures { λ r. ⌜ r ≡ writtenCode written ⌝ }
+{
+    match written {
+        Written::Refused(why) => unwritten_code(why),
+        Written::Whole(size) => offset_code(120, size),
+    }
 }
 
 // A verdict: the number of the rule and its row.

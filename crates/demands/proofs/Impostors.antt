@@ -39,6 +39,7 @@ use Rattle.demands.proofs.History.{all-but}
 use Rattle.demands.proofs.Demand3.{obeys-safe, reached-append, history-append}
 use Rattle.demands.proofs.Verdicts.{judged-once, read-once}
 use Rattle.demands.proofs.Small.{small, bare-reads, sound-reads, small-sound}
+use Rattle.demands.proofs.Writing.{one-writing, refuses-all, writes-past}
 
 -- What a box must answer on the small plan without a clear list.
 
@@ -250,4 +251,11 @@ impostors = record {
   holdsFail = λ box p reads sound events r x w d.
       let held = d p reads sound events .held r x in elim w [ inl (h, n) ↦ n (held .0 h) | inr (s, n) ↦ n (held .1 s) ];
   aloofFails = λ box p reads r σ τ w v same n agrees. n (agrees p reads r σ τ w v same);
+  miserFails = refuses-all;
+  pastFails = writes-past;
+  blindFails = λ read writer image out long none n w. n (w .none image out long .1 none);
+  tightFails = λ read writer image out file why r e a w. never (let z = w .whole image out file r (omega (arith, e)) .0 in cc);
+  spoilerFails = λ read writer image out why long a n w. n (w .kept image out why long a);
+  otherFails = λ read writer other image out d long n w o.
+      let same = one-writing read writer other d w o image out long in elim n [ inl z ↦ z (same .0) | inr z ↦ z (same .1) ];
 }

@@ -10,6 +10,7 @@ pub mod Agreement
 pub mod Once
 pub mod Verdicts
 pub mod Small
+pub mod Writing
 pub mod Alone
 pub mod Impostors
 pub mod Ours

@@ -2,6 +2,7 @@
 use mathlib.Core.Path.{refl}
 use mathlib.Core.Logic.{_≢_}
 use Rattle.plan.specs.Records.{Plan}
+use Rattle.reading.specs.Reading.{parse}
 use Rattle.reading.proofs.Meaning.{reads-readable}
 use Rattle.rules.specs.Verdict.{Breaks, verdict, ruleNumber, ruleRow}
 use Rattle.rules.specs.declared.Verdict.{Verdict}
@@ -11,11 +12,12 @@ use Rattle.events.specs.Events.{eventsOf}
 use Rattle.events.proofs.Given.{given}
 use Rattle.events.proofs.Kept.{next-follows}
 use Rattle.demands.specs.Demands.{Demand2, Judges}
-use Rattle.demands.specs.Ours.{ours, Shown}
+use Rattle.demands.specs.Ours.{ours, ourWriter, Shown}
 use Rattle.forms.proofs.Meaning.{one-form}
 use Rattle.forms.proofs.Longest.{longest}
 use Rattle.forms.proofs.Rows.{track-row, release-row, route-row, entry-row}
 use Rattle.demands.proofs.Verdicts.{parse-reads}
+use Rattle.demands.proofs.Writing.{our-writes, round-trip}
 use Rattle.demands.proofs.Demand3.{demand2→demand3}
 use Rattle.demands.proofs.Agreement.{demand2→agreement}
 
@@ -41,6 +43,8 @@ shown = record {
   release-rows = release-row;
   route-rows = route-row;
   entry-rows = entry-row;
+  writes = our-writes;
+  round-trip = round-trip parse parse-reads ourWriter our-writes;
   safe = demand2→demand3 ours exact;
   file-safe = λ file bytes {p} e v. demand2→demand3 ours exact p (reads-readable file e .1) (accepted-exactly p .0 v) (eventsOf bytes);
   agrees = demand2→agreement ours exact;

@@ -31,7 +31,7 @@ judged-once verdict other p reads d n o = differ (broken-once p _ _ _ _ (o .brok
 pub parse-reads : Reads parse
 parse-reads = record { plans = readable-reads; forms = λ file f. form-exactly file f .1 }
 
-reads-as-parse : (read : List ℕ → Got Plan) → Reads read → (file : List ℕ) → read file ≡ parse file
+pub reads-as-parse : (read : List ℕ → Got Plan) → Reads read → (file : List ℕ) → read file ≡ parse file
 reads-as-parse read d = parse-only read (d .plans) (d .forms)
 
 pub one-reading : OneReading

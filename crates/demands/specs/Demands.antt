@@ -4,6 +4,8 @@
 --   plan/specs/Records.antt      Plan; plan/specs/Kinds.antt: Plain, Exit, Forks, Legged, isPoint, out, leg, uses, what a track is
 --   plan/specs/Layout.antt       Leads, Home, StandsAt; plan/specs/Routes.antt: trackAt, pointsOf, Listed, Released, Releases, what a route says
 --   plan/specs/File.antt         fileOf, the file of a plan, and Readable, the plans that a file can hold
+--   plan/specs/Image.antt        imageOf, the memory of a plan, and planOf, the plan that any memory shows
+--   writing/src/lib.rt           Written, what a writer answers; writing/specs/Writing.antt: its numbers
 --   forms/specs/Forms.antt       planFile, the plan file byte by byte: what the next byte must be, by those before it; Formed, the table of forms (1 to 5), each as its
 --                                sentence of the first byte that is not right; forms/specs/Rows.antt: TrackRow and its like, which byte of a row is which
 --   forms/specs/Shown.antt       OneForm, exactly one form for a file that is no plan's; Longest, the largest file
@@ -22,25 +24,31 @@
 -- every function is proved to end. What is printed for any input, however it is cut, and demand 3 from call to call stand in Session.antt.
 -- Signs: `(x : ℕ) → A` for every number x, A; `(x : ℕ) × A` there is a number x with A; `A → B` if A then B; `A × B` both; `A ⊎ B` one of the two;
 -- `A ↔ B` each gives the other; `A → ⊥` not A, `⊥` what is never so, `Unit` what is always so; `x ≡ y` equal, `x ≢ y` not; `λ x. e` e, given x; `[]` the empty
--- list, `x ∷ l` x before the list l, `k ++ l` one after the other; `getD l i d` the i-th of l, d where there is none; `cond test yes no`; `suc n` n + 1; `.0`, `.1`
--- the first and second of a pair. A `record` holds all of its lines, a `data` one of its cases; what stands in `{ }` can be read off from the rest; `abbrev` and
+-- list, `x ∷ l` x before the list l, `k ++ l` one after the other; `getD l i d` the i-th of l, d where there is none; `cond test yes no`; `suc n` n + 1; `take n l` the first n of
+-- l, `drop n l` those after them; `.0`, `.1` the first and second of a pair. A `record` holds all of its lines, a `data` one of its cases; what stands in `{ }` can be read off from the rest; `abbrev` and
 -- `unfoldable` are for the prover. These, and what the kit has of numbers and lists, are all that is used beside the definitions above.
 use mathlib.Core.Path.{_≡_}
 use mathlib.Core.Bool.{cond}
 use mathlib.Core.Logic.{_≢_, _↔_}
 use mathlib.Core.List.{List, [], _∷_, _++_}
-use Prim.Native.Nat.{ℕ, _+_, _≤_}
+use Prim.Native.Nat.{ℕ, _+_, _<_, _≤_}
 use lib.Dec.{eqb}
-use lib.ListN.{length}
+use lib.ListN.{length, take, drop}
 use Rattle.laws.specs.declared.Found.{Found}
 use Rattle.laws.specs.declared.Found.the-variants.{At, Nothing}
 use Rattle.laws.specs.Lists.{All}
+use Rattle.plan.specs.Limits.{imageSize}
 use Rattle.plan.specs.Records.{Plan}
 use Rattle.plan.specs.Routes.{Listed, Releases}
 use Rattle.plan.specs.File.{fileOf, Readable}
+use Rattle.plan.specs.Image.{imageOf, planOf}
 use Rattle.reading.specs.declared.Form.{Form}
 use Rattle.reading.specs.Reading.{Got, form, got, formNumber, formOffset}
 use Rattle.forms.specs.Forms.{Formed, planFile}
+use Rattle.writing.specs.declared.Unwritten.{Unwritten}
+use Rattle.writing.specs.declared.Unwritten.the-variants.{NoFile, NoRoom}
+use Rattle.writing.specs.declared.Written.{Written}
+use Rattle.writing.specs.declared.Written.the-variants.{Refused as Unwrote, Whole}
 use Rattle.rules.specs.declared.Verdict.{Verdict}
 use Rattle.rules.specs.declared.Verdict.the-variants.{Accepted}
 use Rattle.rules.specs.Verdict.{Sound, Breaks, ruleNumber, ruleRow}
@@ -91,6 +99,42 @@ pub record Reads (read : List ℕ → Got Plan) : Type 0 where
 -- No choice is left here either (proofs/Verdicts.antt, one-reading).
 abbrev pub OneReading : Type 0
 OneReading = (read other : List ℕ → Got Plan) → Reads read → Reads other → (file : List ℕ) → read file ≡ other file
+
+-- Demand 2 of writing a plan in memory, which document 02's first request adds. A file reads as an image where reading it leaves that.
+abbrev pub ReadsAs : (List ℕ → Got Plan) → List ℕ → List ℕ → Type 0
+ReadsAs read file image = (p : Plan) × (read file ≡ got p (length file) []) × (imageOf p ≡ image)
+
+-- What a writer answers for an image and the memory that it is lent, and what it leaves there.
+pub record Writer : Type 0 where
+  pub answer : List ℕ → List ℕ → Written
+  pub leaves : List ℕ → List ℕ → List ℕ
+
+-- Of any bytes as an image, as many as one has, and of any lent memory: 7 (NoFile) exactly when no file reads as the image; else 6 (NoRoom) exactly when the
+-- memory is shorter than the file; else the file's length, and the file at the front of the memory, with what was past it. A refusal leaves it all.
+pub record Writes (read : List ℕ → Got Plan) (writer : Writer) : Type 0 where
+  pub none : (image out : List ℕ) → length image ≡ imageSize → (writer .answer image out ≡ Unwrote NoFile) ↔ ((file : List ℕ) → ReadsAs read file image → ⊥)
+  pub short : (image out file : List ℕ) → ReadsAs read file image → (writer .answer image out ≡ Unwrote NoRoom) ↔ (length out < length file)
+  pub whole : (image out file : List ℕ) → ReadsAs read file image → length file ≤ length out
+      → (writer .answer image out ≡ Whole (length file)) × (writer .leaves image out ≡ file ++ drop (length file) out)
+  pub kept : (image out : List ℕ) (why : Unwritten) → length image ≡ imageSize → writer .answer image out ≡ Unwrote why → writer .leaves image out ≡ out
+
+-- No choice is left (proofs/Writing.antt, one-writing).
+abbrev pub OneWriting : Type 0
+OneWriting =
+    (read : List ℕ → Got Plan) (writer other : Writer) → Reads read → Writes read writer → Writes read other → (image out : List ℕ) → length image ≡ imageSize
+    → (writer .answer image out ≡ other .answer image out) × (writer .leaves image out ≡ other .leaves image out)
+
+-- Every writer that meets it gives back what was read, and what is read back is what it was given (proofs/Writing.antt, round-trip).
+pub record RoundTrip (read : List ℕ → Got Plan) (writer : Writer) : Type 0 where
+  -- reading what was written gives the same plan, and the same image
+  pub again : (image out : List ℕ) (size : ℕ) → length image ≡ imageSize → writer .answer image out ≡ Whole size
+      → (read (take size (writer .leaves image out)) ≡ got (planOf image) size []) × (imageOf (planOf image) ≡ image)
+  -- writing what was read gives the same bytes
+  pub back : (file out : List ℕ) {p : Plan} {at : ℕ} {rest : List ℕ} → read file ≡ got p at rest → length file ≤ length out
+      → (writer .answer (imageOf p) out ≡ Whole (length file)) × (take (length file) (writer .leaves (imageOf p) out) ≡ file)
+  -- a plan that is written is readable, and what is written is its file
+  pub readable : (image out : List ℕ) (size : ℕ) → length image ≡ imageSize → writer .answer image out ≡ Whole size
+      → Readable (planOf image) × (take size (writer .leaves image out) ≡ fileOf (planOf image))
 
 -- Demand 2 of the verdict on a plan: accepted exactly when the twelve sentences hold, else the lowest broken rule with its lowest row.
 pub record Judges (verdict : Plan → Verdict) : Type 0 where

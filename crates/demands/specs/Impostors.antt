@@ -1,14 +1,20 @@
 -- The impostors of document 01, "No loose ends": boxes that would pass for one, and the demand that each of them fails. Ours, beside the document's: boxes
--- deaf to events or states, one that is right but in one place, and one for each part of demand 3 and for Agreement, so that none of them is idle.
+-- deaf to events or states, one that is right but in one place, one for each part of demand 3 and for Agreement, and one for each part of writing, so that
+-- none of them is idle.
 use mathlib.Core.Path.{_≡_}
 use mathlib.Core.Logic.{_≢_, _⊎_}
 use mathlib.Core.List.{List, [], _∷_}
-use Prim.Native.Nat.{ℕ, _+_}
+use Prim.Native.Nat.{ℕ, _+_, _≤_}
+use lib.ListN.{length, getD}
+use Rattle.plan.specs.Limits.{imageSize}
 use Rattle.plan.specs.Records.{Plan}
 use Rattle.plan.specs.Routes.{Listed}
 use Rattle.plan.specs.File.{Readable}
 use Rattle.reading.specs.declared.Form.{Form}
 use Rattle.reading.specs.Reading.{Got, form, formNumber, formOffset}
+use Rattle.writing.specs.declared.Unwritten.{Unwritten}
+use Rattle.writing.specs.declared.Unwritten.the-variants.{NoFile}
+use Rattle.writing.specs.declared.Written.the-variants.{Refused as Unwrote}
 use Rattle.rules.specs.declared.Verdict.{Verdict}
 use Rattle.rules.specs.Verdict.{Sound, ruleNumber, ruleRow}
 use Rattle.state.specs.declared.State.{State}
@@ -21,7 +27,7 @@ use Rattle.events.specs.declared.Harm.{Harm}
 use Rattle.events.specs.declared.Deed.the-variants.{Entered, Moved, Left}
 use Rattle.events.specs.declared.Answer.{Answer}
 use Rattle.events.specs.declared.Answer.the-variants.{Refused, Accident, Done}
-use Rattle.demands.specs.Demands.{Box, Demand2, SameState, Reads, Judges, history, reached, comes, goes, shown, SinceGrant, Demand3, Agreement}
+use Rattle.demands.specs.Demands.{Box, Demand2, SameState, Reads, ReadsAs, Writer, Writes, Judges, history, reached, comes, goes, shown, SinceGrant, Demand3, Agreement}
 use Rattle.events.specs.Meaning.{Alike}
 
 -- it refuses everything, whatever the reason
@@ -132,3 +138,18 @@ pub record Impostors : Type 0 where
   -- a box whose answer to a request goes by something that it doesn't look at
   pub aloofFails : (box : Box) (p : Plan) → Readable p → (r : ℕ) (σ τ : State) → WellFormed p σ → WellFormed p τ → Alike p r σ τ
       → box .answer p σ (Request r) ≢ box .answer p τ (Request r) → Agreement box → ⊥
+  -- a writer that refuses everything, with 7 or for whatever reason; one that leaves another byte past the file than was there
+  pub miserFails : (read : List ℕ → Got Plan) → Reads read → (writer : Writer) → ((image out : List ℕ) → (why : Unwritten) × (writer .answer image out ≡ Unwrote why))
+      → Writes read writer → ⊥
+  pub pastFails : (read : List ℕ → Got Plan) (writer : Writer) (image out file : List ℕ) (i : ℕ) → ReadsAs read file image → length file ≤ i
+      → length file ≤ length out → getD (writer .leaves image out) i 0 ≢ getD out i 0 → Writes read writer → ⊥
+  -- a writer that says something else than 7 where no file reads as the image, 6 for instance; one that refuses a memory that is just long enough; one
+  -- whose refusal leaves something else than was there; and one that differs in one place from a writer that meets the demand
+  pub blindFails : (read : List ℕ → Got Plan) (writer : Writer) (image out : List ℕ) → length image ≡ imageSize → ((file : List ℕ) → ReadsAs read file image → ⊥)
+      → writer .answer image out ≢ Unwrote NoFile → Writes read writer → ⊥
+  pub tightFails : (read : List ℕ → Got Plan) (writer : Writer) (image out file : List ℕ) (why : Unwritten) → ReadsAs read file image → length out ≡ length file
+      → writer .answer image out ≡ Unwrote why → Writes read writer → ⊥
+  pub spoilerFails : (read : List ℕ → Got Plan) (writer : Writer) (image out : List ℕ) (why : Unwritten) → length image ≡ imageSize
+      → writer .answer image out ≡ Unwrote why → writer .leaves image out ≢ out → Writes read writer → ⊥
+  pub otherFails : (read : List ℕ → Got Plan) (writer other : Writer) (image out : List ℕ) → Reads read → length image ≡ imageSize
+      → (writer .answer image out ≢ other .answer image out) ⊎ (writer .leaves image out ≢ other .leaves image out) → Writes read writer → Writes read other → ⊥

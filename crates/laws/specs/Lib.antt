@@ -8,3 +8,4 @@ pub mod Rows
 pub mod Walks
 pub mod Tables
 pub mod Sets
+pub mod Written

@@ -3,7 +3,6 @@ pub mod Runs
 pub mod Printed
 pub mod Shown
 pub mod Most
-pub mod Once
 pub mod Reread
 pub mod Results
 pub mod ResultsNumbers

@@ -4,7 +4,7 @@ use mathlib.Core.Path.{_≡_ as _is_, _≡_}
 use Rattle.laws.specs.Once.{equal-once}
 use Rattle.events.specs.declared.Refusal.{Refusal}
 use mathlib.Core.List.{List}
-use Rattle.lines.proofs.Once.{wrote-once}
+use Rattle.laws.specs.Written.{wrote-once, Wrote}
 use Rattle.events.specs.declared.Harm.{Harm}
 use Rattle.events.specs.declared.Deed.{Deed}
 use Rattle.events.specs.declared.Answer.{Answer}
@@ -13,7 +13,6 @@ use Rattle.reading.specs.declared.Form.{Form}
 use Rattle.events.specs.declared.Deed.the-variants.{Entered, Moved, Left}
 use Rattle.events.specs.declared.Answer.the-variants.{Refused, Accident, Done}
 use Rattle.lines.specs.Lines.{answerLine, verdictLine, formLine, lineMost}
-use Rattle.lines.specs.Written.{Wrote}
 
 pub line-most-once : (r r₂ : ℕ)
     → (r ≡ lineMost)

@@ -1,17 +1,10 @@
 -- Written by .ci/contracts --write: for each function of src/text.rt, that any two results that its contract allows are the same.
-use mathlib.Core.List.{List, _++_}
 use Prim.Native.Nat.{ℕ}
+use mathlib.Core.List.{List, _++_}
 use mathlib.Core.Path.{_≡_ as _is_}
-use Rattle.lines.proofs.Once.{wrote-once}
+use Rattle.laws.specs.Written.{wrote-once, Wrote}
 use Rattle.lines.specs.Decimal.{decimal}
 use Rattle.lines.specs.Lines.{end}
-use Rattle.lines.specs.Written.{Wrote}
-
-pub put-word-once : (word out : List ℕ) (at r r₂ : ℕ) (out′ out″ : List ℕ)
-    → (Wrote word out at out′ r)
-    → (Wrote word out at out″ r₂)
-    → (out′ is out″) × (r is r₂)
-put-word-once word out at r r₂ out′ out″ by-one by-other = wrote-once _ _ _ _ _ _ _ by-one by-other
 
 pub put-decimal-once : (n : ℕ) (out : List ℕ) (at r r₂ : ℕ) (out′ out″ : List ℕ)
     → (Wrote (decimal n) out at out′ r)

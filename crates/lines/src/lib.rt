@@ -3,6 +3,7 @@ use events::Answer;
 use events::Deed;
 use events::Harm;
 use events::Refusal;
+use lists::put_bytes;
 use lists::wide;
 use numbers::form_number;
 use numbers::form_offset;
@@ -14,14 +15,13 @@ use text::line_of_one;
 use text::line_of_two;
 use text::put_end;
 use text::put_number;
-use text::put_word;
 ghost use mathlib.Core.Path.{_≡_};
 ghost use Prim.Native.Nat.{_+_, _≤_};
 ghost use lib.ListN.{length};
 ghost use Rattle.events.specs.declared.Deed.the-variants.{Entered, Moved, Left};
 ghost use Rattle.events.specs.declared.Answer.the-variants.{Refused, Accident, Done};
 ghost use Rattle.lines.specs.Lines.{answerLine, verdictLine, formLine, lineMost};
-ghost use Rattle.lines.specs.Written.{Wrote};
+ghost use Rattle.laws.specs.Written.{Wrote};
 
 pub mod numbers;
 mod text;
@@ -120,7 +120,7 @@ pub fn verdict_line(verdict: Verdict, out: &mut [u8], at: usize) -> usize
     if let Verdict::Broken { rule, row } = verdict {
         return line_of_two(b"rule ", rule, b" row ", row, out, at);
     }
-    let next = put_word(b"accepted", out, at);
+    let next = put_bytes(b"accepted", out, at);
     put_end(out, next)
 }
 

@@ -1,23 +1,11 @@
 // Bytes one after the other into lent memory: each function hands back the offset after what it wrote.
+use lists::put_bytes;
 ghost use mathlib.Core.List.{_++_};
 ghost use Prim.Native.Nat.{_+_, _<_, _≤_};
 ghost use lib.ListN.{length};
 ghost use Rattle.lines.specs.Decimal.{decimal, numberMost};
 ghost use Rattle.lines.specs.Lines.{end};
-ghost use Rattle.lines.specs.Written.{Wrote};
-
-// A word.
-pub fn put_word(word: &[u8], out: &mut [u8], at: usize) -> usize
-    requires { ⌜ at + length (now word) ≤ length (now out) ⌝ }
-    ensures { λ r. ⌜ Wrote (now (word .entry)) (now (out .entry)) at (now (out .exit)) r ⌝ }
-{
-    let mut i = 0;
-    while i < word.len() {
-        out[at + i] = word[i];
-        i += 1;
-    }
-    at + i
-}
+ghost use Rattle.laws.specs.Written.{Wrote};
 
 // A number's decimal digits.
 pub fn put_decimal(n: usize, out: &mut [u8], at: usize) -> usize
@@ -38,7 +26,7 @@ pub fn put_number(word: &[u8], n: usize, out: &mut [u8], at: usize) -> usize
     requires { ⌜ at + (length (now word) + numberMost) ≤ length (now out) ⌝ }
     ensures { λ r. ⌜ Wrote (now (word .entry) ++ decimal n) (now (out .entry)) at (now (out .exit)) r ⌝ }
 {
-    let next = put_word(word, out, at);
+    let next = put_bytes(word, out, at);
     put_decimal(n, out, next)
 }
 

@@ -3,7 +3,8 @@ use Prim.Native.Nat.{ℕ}
 use mathlib.Core.Path.{_≡_ as _is_, _≡_}
 use Rattle.laws.specs.Once.{equal-once}
 use mathlib.Core.List.{List}
-use mathlib.Core.Bool.{Bool, not}
+use mathlib.Core.Bool.{Bool, cond, not}
+use Rattle.laws.specs.Written.{wrote-once, Wrote}
 use lib.Dec.{ltb}
 use Rattle.laws.specs.Lists.{allOf, has, different, emptyFrom}
 
@@ -43,6 +44,12 @@ pub different-once : (list : List ℕ) (r r₂ : Bool)
     → r is r₂
 different-once list r r₂ by-one by-other = equal-once _ _ _ by-one by-other
 
+pub higher-once : (a b r r₂ : ℕ)
+    → (r ≡ cond (ltb a b) b a)
+    → (r₂ ≡ cond (ltb a b) b a)
+    → r is r₂
+higher-once a b r r₂ by-one by-other = equal-once _ _ _ by-one by-other
+
 pub empty-from-once : (from : ℕ) (list : List ℕ) (r r₂ : Bool)
     → (r ≡ emptyFrom from list)
     → (r₂ ≡ emptyFrom from list)
@@ -54,3 +61,9 @@ pub none-from-once : (from : ℕ) (list : List ℕ) (r r₂ : Bool)
     → (r₂ ≡ emptyFrom from list)
     → r is r₂
 none-from-once from list r r₂ by-one by-other = equal-once _ _ _ by-one by-other
+
+pub put-bytes-once : (list out : List ℕ) (at r r₂ : ℕ) (out′ out″ : List ℕ)
+    → (Wrote list out at out′ r)
+    → (Wrote list out at out″ r₂)
+    → (out′ is out″) × (r is r₂)
+put-bytes-once list out at r r₂ out′ out″ by-one by-other = wrote-once _ _ _ _ _ _ _ by-one by-other

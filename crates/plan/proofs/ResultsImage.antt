@@ -8,7 +8,7 @@ use mathlib.Core.Bool.{Bool}
 use lib.ListN.{length}
 use Rattle.plan.specs.Kinds.{isPoint}
 use Rattle.plan.specs.Records.{trackOf, routeOf, entryOf}
-use Rattle.plan.specs.File.{releaseFile}
+use Rattle.plan.specs.File.{trackFile, releaseFile}
 use Rattle.plan.specs.Image.{countIn, listIn, releasesIn, planOf, routeList}
 use Rattle.laws.specs.Lists.{joined}
 
@@ -41,6 +41,12 @@ pub track-of-once : (image : List ℕ) (track : ℕ) (r r₂ : Track)
     → (r₂ ≡ trackOf (planOf image) track)
     → r is r₂
 track-of-once image track r r₂ by-one by-other = equal-once _ _ _ by-one by-other
+
+pub track-rows-once : (image r r₂ : List ℕ)
+    → (r ≡ joined trackFile (planOf image .tracks))
+    → (r₂ ≡ joined trackFile (planOf image .tracks))
+    → r is r₂
+track-rows-once image r r₂ by-one by-other = equal-once _ _ _ by-one by-other
 
 pub tracks-once : (image : List ℕ) (r r₂ : ℕ)
     → (r ≡ length (planOf image .tracks))
@@ -78,6 +84,12 @@ pub route-list-once : (image : List ℕ) (route at most : ℕ) (r r₂ : List �
     → r is r₂
 route-list-once image route at most r r₂ by-one by-other = equal-once _ _ _ by-one by-other
 
+pub start-byte-once : (image : List ℕ) (route r r₂ : ℕ)
+    → (r ≡ routeOf (planOf image) route .start)
+    → (r₂ ≡ routeOf (planOf image) route .start)
+    → r is r₂
+start-byte-once image route r r₂ by-one by-other = equal-once _ _ _ by-one by-other
+
 pub start-of-once : (image : List ℕ) (route r r₂ : ℕ)
     → (r ≡ routeOf (planOf image) route .start)
     → (r₂ ≡ routeOf (planOf image) route .start)
@@ -113,6 +125,12 @@ pub releases-of-once : (image : List ℕ) (route : ℕ) (r r₂ : List ℕ)
     → (r₂ ≡ joined releaseFile (routeOf (planOf image) route .releases))
     → r is r₂
 releases-of-once image route r r₂ by-one by-other = equal-once _ _ _ by-one by-other
+
+pub entry-byte-once : (image : List ℕ) (entry r r₂ : ℕ)
+    → (r ≡ entryOf (planOf image) entry .track)
+    → (r₂ ≡ entryOf (planOf image) entry .track)
+    → r is r₂
+entry-byte-once image entry r r₂ by-one by-other = equal-once _ _ _ by-one by-other
 
 pub entry-track-once : (image : List ℕ) (entry r r₂ : ℕ)
     → (r ≡ entryOf (planOf image) entry .track)

@@ -10,14 +10,14 @@ use Rattle.laws.specs.Lists.{All, joined, all-every, all-map}
 use Rattle.laws.specs.Tables.{tab, tab-cong}
 use Rattle.plan.specs.declared.Track.{Track}
 use Rattle.plan.specs.declared.Release.{Release}
-use Rattle.plan.specs.Limits.{mostTracks, mostSignals, mostRoutes, mostEntries, mostPath, mostClear, mostPoints, mostReleases, trackSize, releaseSize, pathAt, clearAt, normalAt, reverseAt, releasesAt, routeSize, entryClearAt, entrySize, tracksAt, signalsAt, routesAt, entriesAt}
+use Rattle.plan.specs.Limits.{mostTracks, mostSignals, mostRoutes, mostEntries, mostPath, mostClear, mostPoints, mostReleases, trackSize, releaseSize, pathAt, clearAt, normalAt, reverseAt, releasesAt, routeSize, entryClearAt, entrySize, tracksAt, signalsAt, routesAt, entriesAt, imageSize}
 use Rattle.plan.specs.Records.{Route, Entry, Plan}
 use Rattle.plan.specs.File.{trackFile, releaseFile, ReadableRoute, ReadableEntry, Readable}
 use Rattle.plan.specs.Image.{padded, countedImage, listImage, routeImage, entryImage, imageOf, countIn, listIn, thingsIn, trackIn, releaseIn, releasesIn, routeIn, entryIn, tracksIn, signalsIn, planOf}
 
 -- Sizes.
 
-length-padded : (size : ℕ) (bytes : List ℕ) → length bytes ≤ size → length (padded size bytes) ≡ size
+pub length-padded : (size : ℕ) (bytes : List ℕ) → length bytes ≤ size → length (padded size bytes) ≡ size
 unfolding padded
 length-padded size bytes h = simp (length-append, length-replicate) (omega arith)
 
@@ -218,4 +218,22 @@ plan-shown p w =
       signals-shown (p .tracks) (w .tracks .few) (p .signals) (w .signals .few) (routes ++ entries),
       things-shown (imageOf p) routesAt mostRoutes (tracks ++ signals) (signals-long (p .tracks) (w .tracks .few) (p .signals) (w .signals .few)) routeIn routeSize routeImage (p .routes) entries (simp append-assoc) (all-map route-shows (p .routes) routes-fit) (w .routes .few),
       things-shown (imageOf p) entriesAt mostEntries (tracks ++ signals ++ routes) (routes-long (p .tracks) (w .tracks .few) (p .signals) (w .signals .few) (p .routes) (w .routes .few) routes-fit) entryIn entrySize entryImage (p .entries) [] (simp (append-assoc, append-nil)) (all-map entry-shows (p .entries) entries-fit) (w .entries .few),
+    )
+
+-- The image of a plan fills the memory that it has.
+pub image-long : (p : Plan) → Readable p → length (imageOf p) ≡ imageSize
+unfolding imageOf
+image-long p w =
+    let routes-fit : All RouteFits (p .routes) = all-map (route-fits (p .tracks) (length (p .signals))) (p .routes) (w .routes .each) in
+    let entries-fit : All EntryFits (p .entries) = all-map (entry-fits (length (p .tracks))) (p .entries) (w .entries .each) in
+    let before = routes-long (p .tracks) (w .tracks .few) (p .signals) (w .signals .few) (p .routes) (w .routes .few) routes-fit in
+    let last : length (entrySlot (p .entries)) ≡ 1 + entrySize * mostEntries =
+    length-counted entryIn entrySize entryImage mostEntries (p .entries) (all-map entry-shows (p .entries) entries-fit) (w .entries .few) in
+    omega (
+      arith,
+      last,
+      simp length-append at before,
+      length-append (trackSlot (p .tracks)) (signalSlot (p .signals) ++ (routeSlot (p .routes) ++ entrySlot (p .entries))),
+      length-append (signalSlot (p .signals)) (routeSlot (p .routes) ++ entrySlot (p .entries)),
+      length-append (routeSlot (p .routes)) (entrySlot (p .entries)),
     )

@@ -2,12 +2,12 @@
 use mathlib.Core.Bool.{Bool}
 use mathlib.Core.Path.{_≡_, refl, sym, ap, _∙_}
 use mathlib.Core.Logic.{_⊎_, inl, inr, ⊎-elim}
-use mathlib.Core.List.{List, [], _∷_, _++_}
+use mathlib.Core.List.{List, []}
 use Prim.Native.Nat.{ℕ, zero, suc, _+_, _*_, _<_, _≤_, _-_}
-use native.Mathlib.Nat.{min-eq-left, min-eq-right, min-le-left}
+use native.Mathlib.Nat.{min-eq-left, min-eq-right, min-le-left, mul-zero, mul-suc, mul-le-mul-left}
 use native.Mathlib.Omega.{arith}
 use lib.ListN.{length, getD, take, drop, length-take, List·getD-eq-default}
-use lib.Seq.{drop-cons}
+use lib.Seq.{drop-cons, drop-drop, take-add}
 use lib.Dec.{ltb}
 use native.Mathlib.Numerals.{add-one}
 use borrow.Author.Tests.{lt-ltb, le-ltb, ltb-true, ltb-false}
@@ -18,7 +18,7 @@ use Rattle.plan.specs.declared.Track.{Track}
 use Rattle.plan.specs.Limits.{mostTracks, mostSignals, mostRoutes, mostEntries, trackSize, releaseSize, routeSize, entrySize, tracksAt, signalsAt, routesAt, entriesAt, imageSize}
 use Rattle.plan.specs.Kinds.{point, isPoint, noTrack}
 use Rattle.plan.specs.Records.{Plan, Route, noRoute, noEntry, trackOf, routeOf, entryOf}
-use Rattle.plan.specs.File.{releaseFile}
+use Rattle.plan.specs.File.{trackFile, releaseFile}
 use Rattle.plan.specs.Image.{countIn, listIn, thingsIn, trackIn, releaseIn, releasesIn, routeIn, entryIn, tracksIn, signalsIn, planOf, routeList}
 
 -- A count, and its limit.
@@ -50,29 +50,56 @@ pub list-part : (image : List ℕ) (at most : ℕ) {n : ℕ} → n ≡ countIn i
 unfolding listIn
 list-part image at most {n} e = let z : at + 1 + n - (at + 1) ≡ n = omega arith in rw (z, e)
 
-two : (image : List ℕ) (b : ℕ) {l : List ℕ} → getD image b 0 ∷ (getD image (suc b) 0 ∷ l) ≡ releaseFile (releaseIn image b) ++ l
-unfolding releaseFile releaseIn
-two image b = rw (← add-one b)
+-- Rows of one size, as they stand, are the files of what the image shows there, where that is so of one row.
+module _ {A : Type 0} (thing : List ℕ → ℕ → A) (size : ℕ) (file : A → List ℕ) (image : List ℕ)
+    (one : (base : ℕ) → base + size ≤ length image → take size (drop base image) ≡ file (thing image base)) where
+  rows : (n base : ℕ) → base + size * n ≤ length image → take (size * n) (drop base image) ≡ joined file (tab n (λ i. thing image (base + size * i)))
+  unfolding joined tab
+  rows zero base h = rw mul-zero
+  rows (suc n) base h =
+      let e : size * suc n ≡ size + size * n = mul-suc size n ∙ omega arith in
+      let z : base + size * 0 ≡ base = rw mul-zero (omega arith) in
+      let t : tab n (λ k. thing image (base + size * suc k)) ≡ tab n (λ k. thing image (base + size + size * k)) =
+      tab-cong n _ _ (λ k hk. ap (thing image) (rw mul-suc (omega arith))) in
+      rw (e, take-add, one base (omega arith), drop-drop, rows n (base + size) (omega arith), t, z)
 
--- pairs of track and point, as they stand, are the releases
-pairs : (n base : ℕ) (image : List ℕ) → base + releaseSize * n ≤ length image
-    → take (releaseSize * n) (drop base image) ≡ joined releaseFile (tab n (λ i. releaseIn image (base + releaseSize * i)))
-unfolding joined tab
-pairs zero base image h = refl
-pairs (suc n) base image h =
-    let e : releaseSize * suc n ≡ suc (suc (releaseSize * n)) = omega arith in
-    let z : base + releaseSize * 0 ≡ base = omega arith in
-    let t : tab n (λ k. releaseIn image (base + releaseSize * suc k)) ≡ tab n (λ k. releaseIn image (suc (suc base) + releaseSize * k)) =
-    tab-cong n _ _ (λ k hk. ap (releaseIn image) (omega arith)) in
-    rw (e, drop-cons image base 0 (omega arith), drop-cons image (suc base) 0 (omega arith), pairs n (suc (suc base)) image (omega arith), t, z) (two image base)
+  pub rows-part : (at most : ℕ) {n : ℕ} → at + 1 + size * most ≤ length image → n ≡ countIn image at most
+      → take (at + 1 + size * n - (at + 1)) (drop (at + 1) image) ≡ joined file (thingsIn thing size image at most)
+  unfolding thingsIn
+  rows-part at most {n} h e =
+      let z : at + 1 + size * n - (at + 1) ≡ size * n = omega arith in
+      let m : size * countIn image at most ≤ size * most = mul-le-mul-left size (count-most image at most) in
+      rw (z, e) (rows (countIn image at most) (at + 1) (omega arith))
+
+release-row : (image : List ℕ) (base : ℕ) → base + releaseSize ≤ length image → take releaseSize (drop base image) ≡ releaseFile (releaseIn image base)
+unfolding releaseFile releaseIn
+release-row image base h = rw (drop-cons image base 0 (omega arith), drop-cons image (suc base) 0 (omega arith), ← add-one base)
+
+track-row : (image : List ℕ) (base : ℕ) → base + trackSize ≤ length image → take trackSize (drop base image) ≡ trackFile (trackIn image base)
+unfolding trackFile trackIn
+track-row image base h =
+    let one : base + 1 ≡ suc base = omega arith in
+    let two : base + 2 ≡ suc (suc base) = omega arith in
+    let three : base + 3 ≡ suc (suc (suc base)) = omega arith in
+    rw (
+      one,
+      two,
+      three,
+      drop-cons image base 0 (omega arith),
+      drop-cons image (suc base) 0 (omega arith),
+      drop-cons image (suc (suc base)) 0 (omega arith),
+      drop-cons image (suc (suc (suc base))) 0 (omega arith),
+    )
 
 pub pairs-part : (image : List ℕ) (at most : ℕ) {n : ℕ} → length image ≡ imageSize → at + 1 + releaseSize * most ≤ imageSize → n ≡ countIn image at most
     → take (at + 1 + releaseSize * n - (at + 1)) (drop (at + 1) image) ≡ joined releaseFile (releasesIn image at most)
-unfolding releasesIn thingsIn
-pairs-part image at most {n} l h e =
-    let z : at + 1 + releaseSize * n - (at + 1) ≡ releaseSize * n = omega arith in
-    let m = count-most image at most in
-    rw (z, e) (pairs (countIn image at most) (at + 1) image (omega arith))
+unfolding releasesIn
+pairs-part image at most l h e = rows-part releaseIn releaseSize releaseFile image (release-row image) at most (omega arith) e
+
+pub tracks-part : (image : List ℕ) {n : ℕ} → length image ≡ imageSize → n ≡ countIn image tracksAt mostTracks
+    → take (tracksAt + 1 + trackSize * n - (tracksAt + 1)) (drop (tracksAt + 1) image) ≡ joined trackFile (planOf image .tracks)
+unfolding planOf tracksIn
+tracks-part image l e = rows-part trackIn trackSize trackFile image (track-row image) tracksAt mostTracks (omega arith) e
 
 -- How many of each.
 module _ (image : List ℕ) where

@@ -33,7 +33,7 @@ ghost use Rattle.plan.specs.Limits.{imageSize, releaseSize, routeSize};
 ghost use mathlib.Core.List.{[]};
 ghost use Rattle.plan.specs.Kinds.{isPoint};
 ghost use Rattle.plan.specs.Records.{trackOf, routeOf, entryOf};
-ghost use Rattle.plan.specs.File.{releaseFile};
+ghost use Rattle.plan.specs.File.{trackFile, releaseFile};
 ghost use Rattle.plan.specs.Image.{countIn, listIn, releasesIn, planOf, routeList};
 ghost use Rattle.laws.specs.Lists.{joined};
 
@@ -94,6 +94,17 @@ pub fn track_of(image: &[u8; IMAGE], track: usize) -> Track
     }
 }
 
+// The rows of all tracks, as the file has them.
+pub fn track_rows(image: &[u8; IMAGE]) -> &[u8]
+    ensures { λ r. ⌜ now r ≡ joined trackFile (planOf (now (image .entry)) .tracks) ⌝ }
+{
+    let count = count_at(image, TRACKS_AT, TRACKS);
+    let start = TRACKS_AT + 1;
+    let end = start + TRACK_SIZE * count;
+    let bytes = &image[..];
+    &bytes[start..end]
+}
+
 // How many tracks, signals, routes and entries the plan has.
 pub fn tracks(image: &[u8; IMAGE]) -> usize
     ensures { λ r. ⌜ r ≡ length (planOf (now (image .entry)) .tracks) ⌝ }
@@ -138,14 +149,20 @@ fn route_list(image: &[u8; IMAGE], route: usize, at: usize, most: usize) -> &[u8
     list_at(image, ROUTES_AT + 1 + ROUTE_SIZE * route + at, most)
 }
 
-// A route's start signal and its lists; a route that there isn't has none.
-pub fn start_of(image: &[u8; IMAGE], route: usize) -> usize
+// A route's start signal, as the image has it and as a number, and its lists; a route that there isn't has none.
+pub fn start_byte(image: &[u8; IMAGE], route: usize) -> u8
     ensures { λ r. ⌜ r ≡ routeOf (planOf (now (image .entry))) route .start ⌝ }
 {
     if routes(image) <= route {
         return 0;
     }
-    wide(image[ROUTES_AT + 1 + ROUTE_SIZE * route])
+    image[ROUTES_AT + 1 + ROUTE_SIZE * route]
+}
+
+pub fn start_of(image: &[u8; IMAGE], route: usize) -> usize
+    ensures { λ r. ⌜ r ≡ routeOf (planOf (now (image .entry))) route .start ⌝ }
+{
+    wide(start_byte(image, route))
 }
 
 pub fn path_of(image: &[u8; IMAGE], route: usize) -> &[u8]
@@ -186,14 +203,20 @@ pub fn releases_of(image: &[u8; IMAGE], route: usize) -> &[u8]
     )
 }
 
-// An entry's track and its clear list; an entry that there isn't has none.
-pub fn entry_track(image: &[u8; IMAGE], entry: usize) -> usize
+// An entry's track, as the image has it and as a number, and its clear list; an entry that there isn't has none.
+pub fn entry_byte(image: &[u8; IMAGE], entry: usize) -> u8
     ensures { λ r. ⌜ r ≡ entryOf (planOf (now (image .entry))) entry .track ⌝ }
 {
     if entries(image) <= entry {
         return 0;
     }
-    wide(image[ENTRIES_AT + 1 + ENTRY_SIZE * entry])
+    image[ENTRIES_AT + 1 + ENTRY_SIZE * entry]
+}
+
+pub fn entry_track(image: &[u8; IMAGE], entry: usize) -> usize
+    ensures { λ r. ⌜ r ≡ entryOf (planOf (now (image .entry))) entry .track ⌝ }
+{
+    wide(entry_byte(image, entry))
 }
 
 pub fn entry_clear(image: &[u8; IMAGE], entry: usize) -> &[u8]

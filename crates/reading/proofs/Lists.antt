@@ -16,7 +16,7 @@ use Rattle.reading.proofs.Sound.{Sound, count-sound, done-sound, as-sou
 -- Things one after the other.
 
 -- each is allowed after its forerunner, which says the least number that may follow
-abbrev Chain : {A : Type 0} → (ℕ → A → Type 0) → (A → ℕ) → ℕ → List A → Type 0
+abbrev pub Chain : {A : Type 0} → (ℕ → A → Type 0) → (A → ℕ) → ℕ → List A → Type 0
 Chain Ok next least [] = Unit
 Chain Ok next least (a ∷ l) = Ok least a × Chain Ok next (next a) l
 
@@ -26,7 +26,7 @@ module _ {A : Type 0} {file : A → List ℕ} {Ok : ℕ → A → Type 0} {m : �
   many-part [] run = absurd (omega arith)
   many-part (a ∷ l) run = (a, run .1 .0, ((omega arith, run .1 .1), refl))
 
-  many-sound : (k least : ℕ) → Sound (joined file) (λ l. (length l ≡ k) × Chain Ok next least l) (k * m) (many one next k least)
+  pub many-sound : (k least : ℕ) → Sound (joined file) (λ l. (length l ≡ k) × Chain Ok next least l) (k * m) (many one next k least)
   unfolding many joined
   many-sound zero least = as-sound (done-sound []) (omega arith) (λ l e. rw e ((refl, tt), refl)) none
     where
@@ -93,7 +93,7 @@ module _ {A : Type 0} (ok : A → Type 0) (key : A → ℕ) where
       (λ l h. ((h .0 .enough, h .0 .few), rising-chain l .1 (h .0 .each, h .1)))
 
 -- Lists of numbers.
-joined-numbers : (l : List ℕ) → joined (λ v. v ∷ []) l ≡ l
+pub joined-numbers : (l : List ℕ) → joined (λ v. v ∷ []) l ≡ l
 unfolding joined
 joined-numbers [] = refl
 joined-numbers (v ∷ l) = rw (joined-numbers l)

@@ -13,7 +13,7 @@ use mathlib.Core.Logic.{inl, inr}
 use Rattle.laws.specs.Tests.{never, below?}
 use Rattle.plan.specs.declared.Track.{Track}
 use Rattle.plan.specs.declared.Release.{Release}
-use Rattle.plan.specs.Limits.{leastTracks, mostTracks, mostRoutes, mostEntries, leastPath, mostPath, mostClear, mostPoints, mostReleases}
+use Rattle.plan.specs.Limits.{leastTracks, mostTracks, mostRoutes, mostEntries, leastPath, mostPath, mostPoints, mostReleases}
 use Rattle.plan.specs.Kinds.{isPoint, uses, limitOf}
 use Rattle.plan.specs.Records.{Entry}
 use Rattle.reading.specs.declared.Form.{Form}
@@ -141,7 +141,7 @@ many-steady next s (suc k) least = then-steady (s least) (λ a. then-steady (man
 
 -- The lists and the records are steady.
 
-counted-steady : {A : Type 0} {one : ℕ → Reader A} (least most : ℕ) (next : A → ℕ) → ((floor : ℕ) → Steady (one floor)) → Steady (counted least most one next)
+pub counted-steady : {A : Type 0} {one : ℕ → Reader A} (least most : ℕ) (next : A → ℕ) → ((floor : ℕ) → Steady (one floor)) → Steady (counted least most one next)
 unfolding counted
 counted-steady least most next s = then-steady (count-steady least most) (λ k. many-steady next s k 0)
 
@@ -292,7 +292,7 @@ number-passed fits least file at told e =
 pub number-above : (fits : ℕ → Bool) (least : ℕ) (file : List ℕ) (at : ℕ) {v x p : ℕ} {rest : List ℕ} → x ≡ getD file at 0 → number fits least at (drop at file) ≡ got v p rest → x + 1 ≡ v + 1
 number-above fits least file at z e = let b = number-byte fits least file at e in rw (b .value, z)
 
--- A release that was passed has its point in its second byte; an entry its track in its first. The next one is above it.
+-- A release that was passed has its point in its second byte; an entry, whatever reads its list, its track in its first. The next one is above it.
 pub release-above : (tracks : List Track) (least : ℕ) (file : List ℕ) (at : ℕ) {a : Release} {x p : ℕ} {rest : List ℕ}
     → x ≡ getD file (at + 1) 0 → release tracks least at (drop at file) ≡ got a p rest → (x + 1 ≡ afterRelease a) × (at + 1 < length file)
 unfolding release andThen done
@@ -304,15 +304,21 @@ release-above tracks least file at {a} z e =
     let w : record { track = from; point = point } ≡ a = cc in
     (rw (z, ← b .next, ← c .value) (ap afterRelease w), rw (b .next) at (c .within))
 
-pub entry-above : (tracks least : ℕ) (file : List ℕ) (at : ℕ) {a : Entry} {x p : ℕ} {rest : List ℕ}
-    → x ≡ getD file at 0 → entry tracks least at (drop at file) ≡ got a p rest → (x + 1 ≡ afterEntry a) × (at < length file)
-unfolding entry andThen done
-entry-above tracks least file at {a} z e =
+pub listed-above : (tracks least : ℕ) (list : Reader (List ℕ)) (file : List ℕ) (at : ℕ) {a : Entry} {x p : ℕ} {rest : List ℕ} → x ≡ getD file at 0
+    → andThen (number (below tracks) least) (λ on. andThen list (λ clear. done (record { track = on; clear = clear }))) at (drop at file) ≡ got a p rest
+    → (x + 1 ≡ afterEntry a) × (at < length file)
+unfolding andThen done
+listed-above tracks least list file at {a} z e =
     follow-got (number (below tracks) least at (drop at file)) _ e λ on q mid h₁ e₁.
     let b = number-byte (below tracks) least file at h₁ in
-    follow-got (risingList tracks mostClear q mid) _ e₁ λ clear q₂ mid₂ h₂ e₂.
+    follow-got (list q mid) _ e₁ λ clear q₂ mid₂ h₂ e₂.
     let w : record { track = on; clear = clear } ≡ a = cc in
     (rw (z, ← b .value) (ap afterEntry w), b .within)
+
+pub entry-above : (tracks least : ℕ) (file : List ℕ) (at : ℕ) {a : Entry} {x p : ℕ} {rest : List ℕ}
+    → x ≡ getD file at 0 → entry tracks least at (drop at file) ≡ got a p rest → (x + 1 ≡ afterEntry a) × (at < length file)
+unfolding entry
+entry-above tracks least file at z e = listed-above tracks least _ file at z e
 
 -- .. and that byte is in the file
 pub release-within : (tracks : List Track) (least : ℕ) (file : List ℕ) (at : ℕ) {r : Seen} {p : ℕ} → r ≡ scanned (release tracks least) file at → r ≡ Next p → at + 1 < length file

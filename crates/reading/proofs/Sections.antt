@@ -14,10 +14,10 @@ use Rattle.reading.specs.Reading.{number, counted, below, pathList, risi
 use Rattle.reading.proofs.Sound.{Sound, number-sound, then-sound, last-sound, as-sound}
 use Rattle.reading.proofs.Lists.{free-sound, rising-sound, list-file, rising-numbers}
 
-below-sound : (limit least : ℕ) → Sound (λ v. v ∷ []) (λ v. (v < limit) × (least ≤ v)) 1 (number (below limit) least)
+pub below-sound : (limit least : ℕ) → Sound (λ v. v ∷ []) (λ v. (v < limit) × (least ≤ v)) 1 (number (below limit) least)
 below-sound limit least = as-sound (number-sound (below limit) least) (omega arith) (λ v ok. ((ltb-true _ _ (ok .0), ok .1), refl)) (λ v ok. (lt-ltb _ _ (ok .0), ok .1))
 
-path-sound : (tracks : ℕ) → Sound listFile (Within leastPath mostPath (λ u. u < tracks)) (1 + mostPath) (pathList tracks)
+pub path-sound : (tracks : ℕ) → Sound listFile (Within leastPath mostPath (λ u. u < tracks)) (1 + mostPath) (pathList tracks)
 unfolding pathList counted
 path-sound tracks = as-sound (free-sound (λ k u. u < tracks) leastPath mostPath (λ k. below-sound tracks) (λ k u. (λ h. h .0, λ h. (h, omega arith)))) (omega arith)
     (λ l ok. (ok, list-file l)) (λ l ok. ok)
@@ -26,7 +26,7 @@ pub rising-list-sound : (tracks most : ℕ) → Sound listFile (λ l. Within 0 m
 unfolding risingList
 rising-list-sound tracks most = rising-numbers _ most (below-sound tracks)
 
-point-list-sound : (tracks : List Track) → Sound listFile (λ l. Within 0 mostPoints (λ p. Is (isPoint tracks p)) l × Rises l) (1 + mostPoints) (pointList tracks)
+pub point-list-sound : (tracks : List Track) → Sound listFile (λ l. Within 0 mostPoints (λ p. Is (isPoint tracks p)) l × Rises l) (1 + mostPoints) (pointList tracks)
 unfolding pointList
 point-list-sound tracks = rising-numbers _ mostPoints (number-sound (isPoint tracks))
 
@@ -54,7 +54,7 @@ release-sound tracks least = as-sound
     (λ r ok. (search arith, refl))
     (λ r ok. search arith)
 
-release-list-sound : (tracks : List Track) →
+pub release-list-sound : (tracks : List Track) →
     Sound (countedFile releaseFile) (λ l. Within 0 mostReleases (ReadableRelease tracks) l × Rises (map (λ q. q .point) l)) (1 + mostReleases * releaseSize) (releaseList tracks)
 unfolding releaseList
 release-list-sound tracks = rising-sound (ReadableRelease tracks) (λ q. q .point) mostReleases (release-sound tracks)

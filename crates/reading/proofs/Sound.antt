@@ -48,6 +48,14 @@ sound-got {A} {file} {Ok} {most} {reader} sound at s {a} {next} {rest} e = go (s
     go (short h f) = never (cc)
     go (bad f before byte after z h refusal steady) = never (let w : reader at s ≡ form f = rw z (steady after) in cc)
 
+-- .. and ends where what is left begins.
+pub sound-next : {A : Type 0} {file : A → List ℕ} {Ok : A → Type 0} {most : ℕ} {reader : Reader A} → Sound file Ok most reader → (at : ℕ) (s : List ℕ) {a : A} {next : ℕ} {rest : List ℕ} →
+    reader at s ≡ got a next rest → next ≡ at + length (file a)
+sound-next {file} {reader} sound at s {a} {next} {rest} e =
+    let x = sound-got sound at s e in
+    let f : reader at s ≡ got a (at + length (file a)) rest = rw (x .1) (sound .forth a (x .0) at rest) in
+    cc
+
 -- One byte.
 
 pub number-sound : (fits : ℕ → Bool) (least : ℕ) → Sound (λ v. v ∷ []) (λ v. Is (fits v) × (least ≤ v)) 1 (number fits least)

@@ -38,7 +38,7 @@ pub enum Seen {
 }
 
 // A number below a limit, and not below the least one allowed.
-fn number_at(file: &[u8], at: usize, limit: usize, least: usize) -> Seen
+pub fn number_at(file: &[u8], at: usize, limit: usize, least: usize) -> Seen
     ensures { λ r. ⌜ r ≡ scanned (number (below limit) least) (now (file .entry)) at ⌝ }
 {
     if file.len() <= at {
@@ -72,7 +72,7 @@ fn point_at(file: &[u8], at: usize, image: &[u8; IMAGE], least: usize) -> Seen
 }
 
 // A count within its limits.
-fn count_of(file: &[u8], at: usize, least: usize, most: usize) -> Seen
+pub fn count_of(file: &[u8], at: usize, least: usize, most: usize) -> Seen
     ensures { λ r. ⌜ r ≡ scanned (count least most) (now (file .entry)) at ⌝ }
 {
     if file.len() <= at {
@@ -89,7 +89,7 @@ fn count_of(file: &[u8], at: usize, least: usize, most: usize) -> Seen
 }
 
 // A path, in travel order.
-fn path_list(file: &[u8], from: usize, tracks: usize) -> Seen
+pub fn path_list(file: &[u8], from: usize, tracks: usize) -> Seen
     ensures { λ r. ⌜ r ≡ scanned (pathList tracks) (now (file .entry)) from ⌝ }
 {
     let counted = count_of(file, from, LEAST_PATH, PATH);
@@ -133,7 +133,7 @@ pub fn rising_list(file: &[u8], from: usize, tracks: usize, most: usize) -> Seen
 }
 
 // A list of points that rises strictly.
-fn point_list(file: &[u8], from: usize, image: &[u8; IMAGE]) -> Seen
+pub fn point_list(file: &[u8], from: usize, image: &[u8; IMAGE]) -> Seen
     ensures { λ r. ⌜ r ≡ scanned (pointList (planOf (now (image .entry)) .tracks)) (now (file .entry)) from ⌝ }
 {
     let counted = count_of(file, from, 0, POINTS);
@@ -219,7 +219,7 @@ fn release_at(file: &[u8], at: usize, image: &[u8; IMAGE], least: usize) -> Seen
 }
 
 // The releases of a route, which rise strictly by point.
-fn release_list(file: &[u8], from: usize, image: &[u8; IMAGE]) -> Seen
+pub fn release_list(file: &[u8], from: usize, image: &[u8; IMAGE]) -> Seen
     ensures { λ r. ⌜ r ≡ scanned (releaseList (planOf (now (image .entry)) .tracks)) (now (file .entry)) from ⌝ }
 {
     let counted = count_of(file, from, 0, RELEASES);

@@ -14,7 +14,7 @@ use Rattle.events.specs.Events.{leftOver, unfinishedCells}
 use Rattle.events.proofs.Pieces.{left-few, cells-hold}
 use Rattle.events.specs.declared.Event.{Event}
 use Rattle.lines.specs.Lines.{answerLine}
-use Rattle.lines.specs.Written.{Wrote}
+use Rattle.laws.specs.Written.{Wrote}
 use Rattle.demands.specs.Session.{Between, between, begun, due, stateAfter, linesOf, Carries, fed, fedLines, endLines, pieceLines, firstLine}
 use Rattle.demands.proofs.Session.{sessions}
 use Rattle.signalbox.specs.declared.Outcome.{Outcome}

@@ -1,5 +1,6 @@
 pub mod Called
 pub mod Faced
+pub mod Kept
 pub mod Feeding
 pub mod Opening
 pub mod Playing

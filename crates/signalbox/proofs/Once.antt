@@ -7,7 +7,7 @@ use Rattle.reading.specs.Reading.{Got}
 use Rattle.state.specs.declared.State.{State}
 use Rattle.events.specs.declared.Event.{Event}
 use Rattle.events.specs.declared.Answer.{Answer}
-use Rattle.lines.proofs.Once.{wrote-once}
+use Rattle.laws.specs.Written.{wrote-once}
 use Rattle.signalbox.specs.declared.Outcome.{Outcome}
 use Rattle.signalbox.specs.Face.{Played}
 use Rattle.signalbox.specs.Once.{OneResult}
@@ -26,6 +26,8 @@ played-once write g σ reason events out r s τ υ out′ other p q =
 
 pub one-result : OneResult
 one-result = record {
+  loaded-once = λ file image r s image′ other p q. (p .code ∙ sym (q .code), p .holds ∙ sym (q .holds));
+  filed-once = λ image out r s out′ other p q. (p .code ∙ sym (q .code), p .holds ∙ sym (q .holds));
   started-once = λ τ υ unfinished others p q. (p .state ∙ sym (q .state), p .none ∙ sym (q .none));
   stepped-once = λ g σ event r s τ υ p q. (p .code ∙ sym (q .code), p .state ∙ sym (q .state));
   opened-once = λ g out r s out′ other p q.

@@ -11,7 +11,7 @@ use Rattle.reading.specs.Reading.{form, parse}
 use Rattle.rules.specs.declared.Verdict.{Verdict}
 use Rattle.rules.specs.Verdict.{verdict}
 use Rattle.lines.specs.Lines.{formLine, verdictLine, lineMost}
-use Rattle.lines.specs.Written.{Wrote}
+use Rattle.laws.specs.Written.{Wrote}
 use Rattle.demands.specs.Session.{firstLine}
 use Rattle.codes.specs.Codes.{noRoom}
 use Rattle.signalbox.specs.Face.{tooMany, unless, openReason, Opened}

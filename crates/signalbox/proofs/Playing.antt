@@ -29,8 +29,7 @@ use Rattle.events.specs.Decide.{decided, answer}
 use Rattle.events.specs.After.{after, nextState}
 use Rattle.events.proofs.Kept.{next-formed}
 use Rattle.lines.specs.Lines.{lineMost}
-use Rattle.lines.specs.Written.{Wrote}
-use Rattle.lines.proofs.Runs.{wrote-then, wrote-byte}
+use Rattle.laws.specs.Written.{Wrote, wrote-then, wrote-byte}
 use Rattle.demands.specs.Demands.{history, reached}
 use Rattle.demands.specs.Ours.{ours}
 use Rattle.demands.specs.Session.{answersOf, stateAfter, Carries}

@@ -2,23 +2,35 @@
 use mathlib.Core.List.{List}
 use Prim.Native.Nat.{ℕ}
 use mathlib.Core.Path.{_≡_ as _is_, refl, _≡_}
+use Rattle.signalbox.proofs.Once.{one-result}
 use Rattle.laws.specs.Once.{equal-once}
 use lib.ListN.{length}
 use Rattle.state.specs.Cells.{cellsSize, stateIn}
 use Rattle.state.proofs.Lent.{lent-once}
-use Rattle.signalbox.proofs.Once.{one-result}
 use Rattle.signalbox.specs.declared.Outcome.{Outcome}
 use Rattle.reading.specs.Reading.{parse}
 use Rattle.loading.specs.Storing.{afterReading}
 use Rattle.events.specs.Events.{firstEvent}
 use Rattle.codes.specs.Codes.{checkCode, readCode}
-use Rattle.signalbox.specs.Face.{Feeds, Finishes, Opened, Ran, Started, Stepped, inTheWay}
+use Rattle.signalbox.specs.Face.{Feeds, Filed, Finishes, Loaded, Opened, Ran, Started, Stepped, inTheWay}
+
+pub signalbox-load-once : (file image : List ℕ) (r r₂ : ℕ) (image′ image″ : List ℕ)
+    → (Loaded file image r image′)
+    → (Loaded file image r₂ image″)
+    → (r is r₂) × (image′ is image″)
+signalbox-load-once file image r r₂ image′ image″ by-one by-other = one-result .loaded-once _ _ _ _ _ _ by-one by-other
 
 pub signalbox-read-once : (file : List ℕ) (r r₂ : ℕ)
     → (r ≡ readCode (parse file))
     → (r₂ ≡ readCode (parse file))
     → r is r₂
 signalbox-read-once file r r₂ by-one by-other = equal-once _ _ _ by-one by-other
+
+pub signalbox-write-once : (image out : List ℕ) (r r₂ : ℕ) (out′ out″ : List ℕ)
+    → (Filed image out r out′)
+    → (Filed image out r₂ out″)
+    → (r is r₂) × (out′ is out″)
+signalbox-write-once image out r r₂ out′ out″ by-one by-other = one-result .filed-once _ _ _ _ _ _ by-one by-other
 
 pub signalbox-check-once : (file : List ℕ) (r r₂ : ℕ)
     → (r ≡ checkCode (parse file))

@@ -6,12 +6,11 @@ use lib.ListN.{length}
 use Rattle.state.specs.Cells.{cellsSize, stateIn}
 use mathlib.Core.Path.{_≡_ as _is_, _≡_}
 use Rattle.state.proofs.Lent.{lent-once}
-use Rattle.lines.proofs.Once.{wrote-once}
+use Rattle.laws.specs.Written.{wrote-once, Wrote}
 use Rattle.plan.specs.Image.{planOf}
 use Rattle.events.specs.Decide.{decided}
 use Rattle.events.specs.After.{after}
 use Rattle.lines.specs.Lines.{answerLine}
-use Rattle.lines.specs.Written.{Wrote}
 
 pub say-once : (image cells holds : List ℕ) (event : Event) (out : List ℕ) (at r r₂ : ℕ) (cells′ cells″ holds′ holds″ out′ out″ : List ℕ)
     → length cells′ is cellsSize

@@ -1,4 +1,5 @@
--- What the box does at its public face, for any bytes as a plan, any state and any bytes as events: `fresh` begins; `step` plays one event; `run`
+-- What the box does at its public face, for any bytes as a plan, any state and any bytes as events: `load` and `write` bring a plan into memory and back
+-- into a file; `fresh` begins; `step` plays one event; `run`
 -- and `feed` play many, `finish` what is unfinished, and all of it or nothing: they differ in which events and in what they write of each answer;
 -- `open` writes the line for the plan.
 use Prim.Native.Nat.{ℕ, zero, suc, _/_}
@@ -9,7 +10,8 @@ use lib.ListN.{length, getD}
 use lib.Dec.{ltb}
 use Rattle.laws.specs.Lists.{joined}
 use Rattle.plan.specs.Records.{Plan}
-use Rattle.reading.specs.Reading.{Got, form, got}
+use Rattle.reading.specs.Reading.{Got, form, got, parse}
+use Rattle.loading.specs.Storing.{afterReading}
 use Rattle.state.specs.declared.State.{State}
 use Rattle.state.specs.State.{fresh, wellFormed}
 use Rattle.events.specs.declared.Event.{Event}
@@ -19,10 +21,21 @@ use Rattle.events.specs.declared.Answer.the-variants.{Refused}
 use Rattle.events.specs.Events.{eventsOf, leftOver, unfinishedIn, unfinishedCells}
 use Rattle.events.specs.Decide.{answer}
 use Rattle.lines.specs.Lines.{answerLine, lineMost}
-use Rattle.lines.specs.Written.{Wrote}
+use Rattle.laws.specs.Written.{Wrote}
+use Rattle.demands.specs.Ours.{ourWriter}
 use Rattle.demands.specs.Session.{answersOf, stateAfter, firstLine, Between, between, due, Carries}
 use Rattle.signalbox.specs.declared.Outcome.{Outcome}
-use Rattle.codes.specs.Codes.{answerCode, formCode, noRoom}
+use Rattle.codes.specs.Codes.{answerCode, formCode, readCode, writtenCode, noRoom}
+
+-- A file read into lent memory: 0, and the plan's image; or the form, and the memory as it was.
+pub record Loaded (file image : List ℕ) (r : ℕ) (image′ : List ℕ) : Type 0 where
+  pub code : r ≡ readCode (parse file)
+  pub holds : image′ ≡ afterReading (parse file) image
+
+-- An image written as its file, as the page of demands has it.
+pub record Filed (image out : List ℕ) (r : ℕ) (out′ : List ℕ) : Type 0 where
+  pub code : r ≡ writtenCode (ourWriter .answer image out)
+  pub holds : out′ ≡ ourWriter .leaves image out
 
 -- The start: the fresh state, and no byte of an event.
 pub record Started (σ : State) (unfinished : List ℕ) : Type 0 where

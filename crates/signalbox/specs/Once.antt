@@ -1,5 +1,5 @@
--- Any two results that a contract of the face allows are the same (proofs/Once.antt): what is handed back, the state, the unfinished event and the
--- lent buffer. Two pairs of arrays that hold the same state are the same (state/specs/Once.antt).
+-- Any two results that a contract of the face allows are the same (proofs/Once.antt): what is handed back, the image, the state, the unfinished
+-- event and the lent buffer. Two pairs of arrays that hold the same state are the same (state/specs/Once.antt).
 use mathlib.Core.Path.{_≡_}
 use mathlib.Core.List.{List}
 use Prim.Native.Nat.{ℕ}
@@ -9,9 +9,11 @@ use Rattle.state.specs.declared.State.{State}
 use Rattle.events.specs.declared.Event.{Event}
 use Rattle.events.specs.declared.Answer.{Answer}
 use Rattle.signalbox.specs.declared.Outcome.{Outcome}
-use Rattle.signalbox.specs.Face.{Started, Stepped, Opened, Played, Answered}
+use Rattle.signalbox.specs.Face.{Loaded, Filed, Started, Stepped, Opened, Played, Answered}
 
 pub record OneResult : Type 0 where
+  pub loaded-once : (file image : List ℕ) (r s : ℕ) (image′ other : List ℕ) → Loaded file image r image′ → Loaded file image s other → (r ≡ s) × (image′ ≡ other)
+  pub filed-once : (image out : List ℕ) (r s : ℕ) (out′ other : List ℕ) → Filed image out r out′ → Filed image out s other → (r ≡ s) × (out′ ≡ other)
   pub started-once : (τ υ : State) (unfinished others : List ℕ) → Started τ unfinished → Started υ others → (τ ≡ υ) × (unfinished ≡ others)
   pub stepped-once : (g : Got Plan) (σ : State) (event : Event) (r s : ℕ) (τ υ : State)
       → Stepped g σ event r τ → Stepped g σ event s υ → (r ≡ s) × (τ ≡ υ)

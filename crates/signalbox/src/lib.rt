@@ -1,5 +1,5 @@
-// The only public face of the box: reading a plan, checking it, the fresh state, one event, many events, events as they come. No function asks
-// anything of its caller: any bytes as a plan, any state and any bytes as events get an answer.
+// The only public face of the box: reading a plan, into memory too, and writing it back, checking it, the fresh state, one event, many events, events
+// as they come. No function asks anything of its caller: any bytes as a plan or an image, any state and any bytes as events get an answer.
 mod said;
 
 use checking::check;
@@ -8,6 +8,7 @@ use codes::answer_code;
 use codes::form_code;
 use codes::refusal_code;
 use codes::verdict_code;
+use codes::written_code;
 use events::Event;
 use events::Refusal;
 use events::event_at;
@@ -29,13 +30,14 @@ use reading::Seen;
 use said::say;
 use state::cells::CELLS;
 use state::form::well_formed;
+use writing::write;
 ghost use mathlib.Core.Path.{_≡_};
 ghost use Rattle.reading.specs.Reading.{parse};
 ghost use Rattle.loading.specs.Storing.{afterReading};
 ghost use Rattle.state.specs.Cells.{stateIn};
 ghost use Rattle.events.specs.Events.{firstEvent};
 ghost use Rattle.codes.specs.Codes.{checkCode, readCode};
-ghost use Rattle.signalbox.specs.Face.{Feeds, Finishes, Opened, Ran, Started, Stepped, inTheWay};
+ghost use Rattle.signalbox.specs.Face.{Feeds, Filed, Finishes, Loaded, Opened, Ran, Started, Stepped, inTheWay};
 
 // What comes of a call that does all that it is given or nothing: 0, or the code of why nothing was done; and how many codes or bytes stand in the
 // lent memory.
@@ -45,17 +47,35 @@ pub struct Outcome {
     pub written: usize,
 }
 
+// Reads a file into the lent image: 0, or its form's number and offset, and the image is then as it was.
+#[no_mangle]
+pub extern "C" fn signalbox_load(file: &[u8], image: &mut [u8; IMAGE]) -> u64
+    ensures { λ r. ⌜ Loaded (now (file .entry)) (now (image .entry)) r (now (image .exit)) ⌝ }
+{
+    let seen = load(file, image);
+    if let Seen::Refused(form) = seen {
+        return form_code(form);
+    }
+    0
+}
+
 // Whether a file is a plan: 0, or its form's number and offset.
 #[no_mangle]
 pub extern "C" fn signalbox_read(file: &[u8]) -> u64
     ensures { λ r. ⌜ r ≡ readCode (parse (now (file .entry))) ⌝ }
 {
     let mut image = [0u8; IMAGE];
-    let seen = load(file, &mut image);
-    if let Seen::Refused(form) = seen {
-        return form_code(form);
-    }
-    0
+    signalbox_load(file, &mut image)
+}
+
+// Writes an image as the file that reads as it: its length, or 7 where there is none, or 6 where it is longer than the lent memory, which is then
+// as it was.
+#[no_mangle]
+pub extern "C" fn signalbox_write(image: &[u8; IMAGE], out: &mut [u8]) -> u64
+    ensures { λ r. ⌜ Filed (now (image .entry)) (now (out .entry)) r (now (out .exit)) ⌝ }
+{
+    let answer = write(image, out);
+    written_code(answer)
 }
 
 // Whether a file is a plan that is accepted: 200, or its form's number and offset, or the broken rule's number and row.

@@ -14,7 +14,7 @@ ghost use Rattle.state.specs.Cells.{stateIn};
 ghost use Rattle.events.specs.Decide.{decided};
 ghost use Rattle.events.specs.After.{after};
 ghost use Rattle.lines.specs.Lines.{answerLine, lineMost};
-ghost use Rattle.lines.specs.Written.{Wrote};
+ghost use Rattle.laws.specs.Written.{Wrote};
 
 // Hands back the offset after the line. Feeding and finishing say their answers here, so that playing and writing have one place.
 pub fn say(

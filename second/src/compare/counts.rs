@@ -1,7 +1,8 @@
 //! Counting what the cases have reached, so that nothing goes untried unnoticed.
 
-use super::calls::{self, Kinds};
+use super::calls::{self, Kind, Kinds};
 use super::flaws::{self, FLAWS};
+use super::images;
 use super::special::{self, SPECIALS};
 use crate::book::MODEL;
 use crate::generate::case::Case;
@@ -49,7 +50,7 @@ pub struct Counts {
     pub flaws: Vec<u64>,
     /// Pairs of agreeing states by the answer to the request.
     pub pairs: [u64; ANSWERS],
-    /// Calls that do all or nothing.
+    /// Calls that do all or nothing, loads and writes among them.
     pub calls: Kinds,
 }
 
@@ -98,17 +99,20 @@ impl Counts {
     pub fn observe(&mut self, case: &Case) {
         self.plans += 1;
         let plan = read(&case.plan);
-        let calls = &mut self.calls;
-        calls::of_case(plan.as_ref().ok(), case, &mut |kind| {
-            *calls.entry(kind).or_default() += 1;
-        });
+        calls::of_case(plan.as_ref().ok(), case, &mut self.noting());
         match plan {
             Err(fault) => self.observe_unreadable(case, fault),
             Ok(plan) => self.observe_readable(case, &plan),
         }
     }
 
+    /// Counts a kind of call.
+    fn noting(&mut self) -> impl FnMut(Kind) + '_ {
+        |kind| *self.calls.entry(kind).or_default() += 1
+    }
+
     fn observe_unreadable(&mut self, case: &Case, fault: Fault) {
+        images::of_no_plan(case, fault.form, &mut self.noting());
         let form = usize::from(fault.form.number);
         let place = PLACES.iter().position(|&place| place == fault.place);
         self.forms[form][place.expect("every place is in the list")] += 1;
@@ -120,7 +124,9 @@ impl Counts {
     }
 
     fn observe_readable(&mut self, case: &Case, plan: &Plan) {
-        match MODEL.verdict(plan) {
+        let verdict = MODEL.verdict(plan);
+        images::of_plan(case, plan, verdict, &mut self.noting());
+        match verdict {
             Verdict::Broken(broken) => {
                 self.rules[broken.rule][usize::from(broken.row > 0)] += 1;
             }

@@ -1,6 +1,7 @@
 //! Plans, states and events in words, for the person who has to find the mistake.
 
 use super::trouble::Work;
+use crate::generate::images::{Base, Writing};
 use crate::generate::pieces::{Piece, Pieces};
 use crate::model::plan::{Plan, Track, MOST_TRACKS};
 use crate::model::reading::read;
@@ -140,7 +141,22 @@ pub fn work(work: &Work) -> String {
         Work::Pieces(session) => pieces_in_words(session),
         Work::Fresh(memory) => format!("the fresh state in memory with {}\n", kept(memory)),
         Work::Open(room) => format!("the line for the plan, room for {room} bytes\n"),
+        Work::Load(fill) => format!("loading it into an image of marks, fill {fill}\n"),
+        Work::Write(writing) => writing_in_words(writing),
     }
+}
+
+fn writing_in_words(writing: &Writing) -> String {
+    let base = match writing.base {
+        Base::Plan => "its image",
+        Base::Empty => "an image of 0",
+    };
+    let mut words = format!("writing {base}, into buffers of {:?} bytes", writing.rooms);
+    let _ = writeln!(words, ", fill {}:", writing.fill);
+    for (at, byte) in &writing.changes {
+        let _ = writeln!(words, "  byte {at} made {byte}");
+    }
+    words
 }
 
 fn pieces_in_words(session: &Pieces) -> String {

@@ -3,6 +3,7 @@
 use super::calls;
 use super::counts::{Counts, CANCELLED, ENTERED, EVENT_KINDS, GRANTED, LEFT, MOVED};
 use super::flaws::FLAWS;
+use super::images;
 use super::special::SPECIALS;
 use crate::generate::faults::{can_occur, PLACES};
 
@@ -141,7 +142,8 @@ fn pair_lines(counts: &Counts) -> Vec<Line> {
 }
 
 fn call_lines(counts: &Counts) -> impl Iterator<Item = Line> + '_ {
-    calls::names().into_iter().map(|kind| {
+    let kinds = calls::names().into_iter().chain(images::names());
+    kinds.map(|kind| {
         let [call, from, what] = kind;
         let count = counts.calls.get(&kind).copied().unwrap_or(0);
         Line::needed(format!("{call} {from}: {what}"), count)

@@ -1,11 +1,14 @@
 //! The comparison of a subject with the model.
 
 mod calls;
+pub mod causes;
 pub mod counts;
 pub mod describe;
 pub mod driver;
+pub mod files;
 mod flaws;
 pub mod history;
+mod images;
 pub mod minima;
 pub mod shrink;
 pub mod shrink_file;

@@ -3,6 +3,7 @@
 use super::shrink_file::with_one_item_less;
 use super::shrink_plan::{apply, cuts};
 use super::trouble::{trouble, Work};
+use crate::generate::images::Base;
 use crate::generate::pieces::Piece;
 use crate::model::plan::{MOST_SIGNALS, MOST_TRACKS};
 use crate::model::reading::read;
@@ -53,7 +54,7 @@ impl Shrinker<'_> {
         kept
     }
 
-    /// Leaves out events or pieces, many at a time at first.
+    /// Leaves out events, pieces or changed bytes, many at a time at first.
     fn shrink_events(&mut self) -> bool {
         let mut smaller = false;
         let mut count = units(&self.work).div_ceil(2);
@@ -162,17 +163,18 @@ impl Shrinker<'_> {
     }
 }
 
-/// How many events or pieces there are.
+/// How many events, pieces or changed bytes there are.
 fn units(work: &Work) -> usize {
     match work {
         Work::Run(events) => events.len().div_ceil(EVENT),
         Work::List(list) => list.events.len().div_ceil(EVENT),
         Work::Pieces(session) => session.pieces.len(),
+        Work::Write(writing) => writing.changes.len(),
         _ => 0,
     }
 }
 
-/// The work without so many events or pieces.
+/// The work without so many events, pieces or changed bytes.
 fn without(work: &Work, at: usize, count: usize) -> Work {
     fn drain<T>(items: &mut Vec<T>, at: usize, count: usize) {
         items.drain(at..(at + count).min(items.len()));
@@ -182,6 +184,7 @@ fn without(work: &Work, at: usize, count: usize) -> Work {
         Work::Run(events) => drain(events, EVENT * at, EVENT * count),
         Work::List(list) => drain(&mut list.events, EVENT * at, EVENT * count),
         Work::Pieces(session) => drain(&mut session.pieces, at, count),
+        Work::Write(writing) => drain(&mut writing.changes, at, count),
         _ => {}
     }
     work
@@ -201,6 +204,12 @@ enum Fewer {
     EventWithLine(usize),
     /// Of the unfinished event.
     Unfinished,
+    /// A buffer, such a part of one (half of it for 2), or its last byte.
+    Buffer(usize),
+    Part(usize, usize),
+    Byte(usize),
+    /// The plan under the changed bytes of an image.
+    Base,
 }
 
 fn all_fewer(work: &Work) -> Vec<Fewer> {
@@ -214,6 +223,17 @@ fn all_fewer(work: &Work) -> Vec<Fewer> {
             let rooms = pieces.map(Fewer::Lines);
             let others = [Fewer::Unfinished, Fewer::Ending];
             events.chain(rooms).chain(others).collect()
+        }
+        Work::Write(writing) => {
+            let buffers = 0..writing.rooms.len();
+            let fewer = buffers.flat_map(|at| {
+                let parts = [2, 16, 256, 4096].map(|part| Fewer::Part(at, part));
+                [Fewer::Buffer(at)]
+                    .into_iter()
+                    .chain(parts)
+                    .chain([Fewer::Byte(at)])
+            });
+            fewer.chain([Fewer::Base]).collect()
         }
         _ => Vec::new(),
     }
@@ -245,6 +265,18 @@ fn less(work: &Work, fewer: Fewer) -> Option<Work> {
         (Work::Pieces(session), Fewer::Unfinished) => {
             let old = std::mem::take(&mut session.from.unfinished);
             (old != session.from.unfinished).then_some(())?;
+        }
+        (Work::Write(writing), Fewer::Buffer(at)) => {
+            (writing.rooms.len() > 1).then(|| writing.rooms.remove(at))?;
+        }
+        (Work::Write(writing), Fewer::Part(at, part)) => {
+            let cut = writing.rooms[at] / part;
+            (cut > 0).then(|| writing.rooms[at] -= cut)?;
+        }
+        (Work::Write(writing), Fewer::Byte(at)) => one_less(&mut writing.rooms[at])?,
+        (Work::Write(writing), Fewer::Base) => {
+            let old = std::mem::replace(&mut writing.base, Base::Empty);
+            (old != Base::Empty).then_some(())?;
         }
         _ => return None,
     }

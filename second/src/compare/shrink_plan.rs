@@ -3,9 +3,11 @@
 use super::trouble::Work;
 use crate::generate::case::Pair;
 use crate::generate::pieces::Pieces;
+use crate::model::image::{ENTRIES_AT, ENTRY_SIZE, IMAGE_SIZE, ROUTES_AT, ROUTE_SIZE};
 use crate::model::plan::{Plan, Release, Route, Track};
 use crate::model::state::Arrays;
 use crate::subject::EVENT;
+use std::ops::Range;
 
 #[derive(Clone, Copy, Debug)]
 pub enum Cut {
@@ -56,11 +58,13 @@ pub fn apply(cut: Cut, plan: &Plan, work: &Work) -> Option<(Plan, Work)> {
         Cut::Entry(number) => {
             plan.entries.remove(number);
             drop_events(&mut work, &[3], number);
+            drop_row(&mut work, ENTRIES_AT..IMAGE_SIZE, ENTRY_SIZE, number);
         }
         Cut::Route(number) => {
             plan.routes.remove(number);
             drop_events(&mut work, &[1, 2], number);
             change_states(&mut work, |arrays| drop_route(arrays, number));
+            drop_row(&mut work, ROUTES_AT..ENTRIES_AT, ROUTE_SIZE, number);
         }
         Cut::Signal(number) => {
             cut_signal(&mut plan, number)?;
@@ -221,6 +225,16 @@ fn change_states(work: &mut Work, change: impl Fn(&mut Arrays)) {
         }
         _ => {}
     }
+}
+
+/// Moves the changed bytes of an image up by a row, if they stand behind the one that was dropped.
+fn drop_row(work: &mut Work, section: Range<usize>, size: usize, row: usize) {
+    let Work::Write(writing) = work else { return };
+    let behind = section.start + 1 + size * (row + 1)..section.end;
+    let changes = writing.changes.iter_mut();
+    changes
+        .filter(|(at, _)| behind.contains(at))
+        .for_each(|(at, _)| *at -= size);
 }
 
 /// Renames the events behind what was dropped; those that name it become none, so that the others

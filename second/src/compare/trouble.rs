@@ -1,15 +1,18 @@
 //! One piece of work given to the model and to a subject: do they agree?
 
 use super::describe::{self, state};
+use super::files;
 use super::history::{self, Told};
 use crate::book::MODEL;
 use crate::generate::case::{Case, Pair};
 use crate::generate::events::Event;
+use crate::generate::images::Writing;
 use crate::generate::lists::List;
 use crate::generate::pieces::Pieces;
+use crate::model::image::IMAGE_SIZE;
 use crate::model::reading::Form;
 use crate::model::state::Arrays;
-use crate::subject::{Kept, Lent, Prepared, Reason, Subject, EVENT, LINE};
+use crate::subject::{Fenced, Kept, Lent, Prepared, Reason, Subject, EVENT, LINE};
 use std::fmt::Display;
 
 /// Something to be done with a plan.
@@ -29,6 +32,10 @@ pub enum Work {
     Fresh(Box<Kept>),
     /// The line for the plan, with room for so many bytes.
     Open(usize),
+    /// The plan loaded into an image with the marks of this fill, and written again.
+    Load(u8),
+    /// An image written into buffers.
+    Write(Box<Writing>),
 }
 
 /// What the model says and what the subject says instead.
@@ -39,11 +46,17 @@ pub struct Trouble {
 }
 
 impl Trouble {
-    fn new(expected: impl Display, found: impl Display) -> Self {
+    pub fn new(expected: impl Display, found: impl Display) -> Self {
         Trouble {
             expected: expected.to_string(),
             found: found.to_string(),
         }
+    }
+
+    /// The same, with more words about what is expected.
+    pub fn when(self, words: impl Display) -> Self {
+        let expected = format!("{}, {words}", self.expected);
+        Trouble { expected, ..self }
     }
 }
 
@@ -57,6 +70,9 @@ pub fn works(case: &Case) -> Vec<Work> {
     works.extend(pairs.map(|pair| Work::Agreement(Box::new(pair))));
     works.extend(case.opening.map(Work::Open));
     works.push(Work::Fresh(Box::new(case.memory.clone())));
+    works.push(Work::Load(case.fill));
+    let writings = case.writings.iter().cloned();
+    works.extend(writings.map(|writing| Work::Write(Box::new(writing))));
     works.push(Work::List(Box::new(case.list.clone())));
     let pieces = case.pieces.iter().cloned();
     works.extend(pieces.map(|pieces| Work::Pieces(Box::new(pieces))));
@@ -69,6 +85,8 @@ pub struct Sides<'a> {
     subject: &'a dyn Subject,
     ready_model: Box<dyn Prepared + 'a>,
     ready_subject: Box<dyn Prepared + 'a>,
+    /// The plan's image, once it has been asked for; nothing but 0 if there is no plan.
+    image: Option<Box<Fenced>>,
 }
 
 impl<'a> Sides<'a> {
@@ -78,6 +96,7 @@ impl<'a> Sides<'a> {
             subject,
             ready_model: MODEL.prepare(plan),
             ready_subject: subject.prepare(plan),
+            image: None,
         }
     }
 
@@ -100,7 +119,22 @@ impl<'a> Sides<'a> {
             Work::Open(room) => self
                 .lent(&mut Kept::fresh(), |ready, _| ready.open(*room))
                 .err(),
+            Work::Load(fill) => files::load(self.subject, self.plan, *fill).err(),
+            Work::Write(writing) => self.write(writing),
         }
+    }
+
+    fn write(&mut self, writing: &Writing) -> Option<Trouble> {
+        let plan = self.plan;
+        let of_plan = self.image.get_or_insert_with(|| {
+            let mut lent = Box::new(Fenced::of(&[0; IMAGE_SIZE]));
+            // Without a plan it stays empty.
+            let _ = MODEL.load(plan, &mut lent);
+            lent
+        });
+        let mut image = [0; IMAGE_SIZE];
+        writing.show(&of_plan.image, &mut image);
+        files::write(self.subject, &image, writing).err()
     }
 
     fn read(&self) -> Option<Trouble> {

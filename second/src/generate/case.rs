@@ -1,6 +1,7 @@
 //! One case of the comparison: a plan file with all that is tried on it, made from one seed.
 
 use super::events::{self, Event};
+use super::images::{self, Writing};
 use super::lists::{self, List};
 use super::pieces::{self, Pieces};
 use super::{accepted, broken, faults, states, wild};
@@ -37,6 +38,9 @@ pub struct Case {
     /// Now and then the room for the line for the plan, which whole runs try with as much as it
     /// needs.
     pub opening: Option<usize>,
+    /// For the marks in the image into which the plan is loaded.
+    pub fill: u8,
+    pub writings: Vec<Writing>,
 }
 
 /// The case of this seed.
@@ -89,6 +93,8 @@ fn with_readable(random: &mut Random, file: Vec<u8>, plan: &Plan) -> Case {
         pieces,
         memory: pieces::memory(random),
         opening,
+        fill: random.byte(),
+        writings: images::writings(random, plan),
     }
 }
 
@@ -139,5 +145,7 @@ fn with_unreadable(random: &mut Random, file: Vec<u8>) -> Case {
         pieces: vec![pieces::for_no_plan(random)],
         memory: pieces::memory(random),
         opening,
+        fill: random.byte(),
+        writings: vec![images::without_plan(random)],
     }
 }

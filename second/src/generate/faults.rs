@@ -90,7 +90,7 @@ pub fn faulty(random: &mut Random) -> Vec<u8> {
 }
 
 /// A file made from this plan that is wrong there; nothing if the plan lacks that place.
-fn with_fault(random: &mut Random, plan: &Plan, form: u8, place: Place) -> Option<Vec<u8>> {
+pub fn with_fault(random: &mut Random, plan: &Plan, form: u8, place: Place) -> Option<Vec<u8>> {
     let mut file = write_with_places(plan);
     if place == Place::End {
         // Also far more than the largest plan has.

@@ -1,4 +1,4 @@
-//! Seeded makers of plans, files, event lists and states.
+//! Seeded makers of plans, files, images, event lists and states.
 
 pub mod beside;
 pub mod broken;
@@ -8,6 +8,7 @@ pub mod case;
 mod dress;
 pub mod events;
 pub mod faults;
+pub mod images;
 pub mod largest;
 pub mod lists;
 pub mod pieces;

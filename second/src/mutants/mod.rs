@@ -3,6 +3,7 @@
 mod calls;
 mod events;
 mod impostors;
+mod loaders;
 mod moves;
 mod pieces;
 pub mod programs;
@@ -10,8 +11,10 @@ mod reading;
 mod requests;
 mod rules;
 mod states;
+mod unasked;
+mod writers;
 
-use crate::book::{Book, Call, MODEL};
+use crate::book::{Book, Call, Loader, Writer, MODEL};
 use crate::compare::driver::{hunt, Mismatch};
 use crate::model::answer::{Answer, Verdict};
 use crate::model::plan::Plan;
@@ -27,7 +30,7 @@ use programs::InProcess;
 pub const MOST_CASES: usize = 20_000;
 
 /// How many there must be at least, so that none is lost unseen. They may only grow.
-const LEAST_BOXES: usize = 242;
+const LEAST_BOXES: usize = 376;
 const LEAST_PROGRAMS: usize = 50;
 
 /// A wrong function in place of a right one.
@@ -44,6 +47,8 @@ enum Wrong {
     Feed(Call<u8>),
     Finish(Call<u8>),
     Open(fn(Verdict, usize) -> Lent<u8>),
+    LoadImage(Loader),
+    Write(Writer),
 }
 
 /// What is wrong, in words and in deed.
@@ -100,6 +105,15 @@ pub fn all() -> Vec<Mutant> {
         calls::ANY_FINISH,
         pieces::FINISH,
         pieces::FRESH,
+        loaders::ALL,
+        writers::ANSWERS,
+        writers::BYTES,
+        writers::STRICT,
+        unasked::COUNTS,
+        unasked::NUMBERS,
+        unasked::ORDERS,
+        unasked::PAST,
+        unasked::LAST_BYTE,
     ];
     groups.concat().into_iter().map(mutant).collect()
 }
@@ -119,6 +133,8 @@ fn mutant((name, wrong): Slip) -> Mutant {
         Wrong::Feed(feed) => book.feed = feed,
         Wrong::Finish(finish) => book.finish = finish,
         Wrong::Open(open) => book.open = open,
+        Wrong::LoadImage(load_image) => book.load_image = load_image,
+        Wrong::Write(write) => book.write = write,
     }
     Mutant { name, book, shows }
 }

@@ -6,7 +6,8 @@ use lib.Dec.{lit≤}
 use Rattle.events.specs.Answers.{harmValues, answerValues}
 use Rattle.lines.specs.Decimal.{numberMost}
 use Rattle.lines.specs.Lines.{bytesOf, line, harmWords, answerWords, tableNumber, answerLine}
-use Rattle.lines.proofs.Runs.{wrote-then, room-after}
+use Rattle.laws.specs.Written.{wrote-then}
+use Rattle.lines.proofs.Runs.{room-after}
 use Rattle.lines.proofs.harm_line.Statement.{statement}
 use Rattle.lines.proofs.harm_line.Tie as tie
 

@@ -5,7 +5,8 @@ use lib.Dec.{lit≤}
 use Rattle.events.specs.Answers.{deedValues, answerValues}
 use Rattle.lines.specs.Lines.{bytesOf, line, deedWords, answerWords, tableNumber, answerLine}
 use Rattle.lines.specs.Decimal.{numberMost}
-use Rattle.lines.proofs.Runs.{wrote-then, room-after}
+use Rattle.laws.specs.Written.{wrote-then}
+use Rattle.lines.proofs.Runs.{room-after}
 use borrow.Author.Needs.{needs}
 use Rattle.lines.proofs.moved_line.Statement.{statement}
 use Rattle.lines.proofs.moved_line.Tie as tie

@@ -1,6 +1,6 @@
 -- `verdict_line`: a broken rule is named with its row; else the plan is accepted.
 use Rattle.lines.specs.Lines.{bytesOf, line, verdictLine}
-use Rattle.lines.proofs.Runs.{wrote-then}
+use Rattle.laws.specs.Written.{wrote-then}
 use mathlib.Core.Path.{refl}
 use borrow.Author.Needs.{needs}
 use Rattle.lines.proofs.verdict_line.Statement.{statement}
@@ -28,11 +28,11 @@ returns c = rw (c .before .before .before .before .before .before .before .verdi
 enum-told : tie.Need-enum-told
 enum-told c = search needs
 
-slice-aggregate-put-word : tie.Need-slice-aggregate-put-word
-slice-aggregate-put-word c = refl
+slice-aggregate-put-bytes : tie.Need-slice-aggregate-put-bytes
+slice-aggregate-put-bytes c = refl
 
-put-word-requires : tie.Need-put-word-requires
-put-word-requires c κs = search needs
+put-bytes-requires : tie.Need-put-bytes-requires
+put-bytes-requires c κs = search needs
 
 put-end-requires : tie.Need-put-end-requires
 put-end-requires c κs = search needs
@@ -43,9 +43,9 @@ same-length-2 c = search needs
 returns-2 : tie.Need-returns-2
 unfolding verdictLine bytesOf
 returns-2 c =
-    let at-put-word = c .before .before .before .before .before .before in
-    let at-enum-told = at-put-word .before .before .before in
-    rw (at-enum-told .enum-told .given .1) (wrote-then (at-put-word .put-word .ensures) (c .before .before .put-end .ensures))
+    let at-put-bytes = c .before .before .before .before .before .before in
+    let at-enum-told = at-put-bytes .before .before .before in
+    rw (at-enum-told .enum-told .given .1) (wrote-then (at-put-bytes .put-bytes .ensures) (c .before .before .put-end .ensures))
 
 pub verdict-line-spec : {M : Type 1} → statement M
 verdict-line-spec =
@@ -58,8 +58,8 @@ verdict-line-spec =
     same-length
     returns
     enum-told
-    slice-aggregate-put-word
-    put-word-requires
+    slice-aggregate-put-bytes
+    put-bytes-requires
     put-end-requires
     same-length-2
     returns-2)

@@ -1,5 +1,6 @@
 -- `line_of_one`: the word and its number leave room for the end.
-use Rattle.lines.proofs.Runs.{wrote-then, room-after}
+use Rattle.laws.specs.Written.{wrote-then}
+use Rattle.lines.proofs.Runs.{room-after}
 use native.Mathlib.Omega.{arith}
 use denote.Ref.{now}
 use native.Mathlib.Nat.{le-refl}

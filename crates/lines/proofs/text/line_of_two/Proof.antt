@@ -4,7 +4,8 @@ use lib.ListN.{length}
 use denote.Ref.{now}
 use native.Mathlib.Nat.{le-refl}
 use Rattle.lines.specs.Decimal.{numberMost}
-use Rattle.lines.proofs.Runs.{wrote-then, room-after}
+use Rattle.laws.specs.Written.{wrote-then}
+use Rattle.lines.proofs.Runs.{room-after}
 use borrow.Author.Needs.{needs}
 use Rattle.lines.proofs.text.line_of_two.Statement.{statement}
 use Rattle.lines.proofs.text.line_of_two.Tie as tie

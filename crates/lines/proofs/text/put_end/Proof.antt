@@ -1,7 +1,7 @@
 -- `put_end`: one byte, the end's.
 use native.Mathlib.Omega.{arith}
 use lib.ListN.{length-set}
-use Rattle.lines.proofs.Runs.{wrote-byte}
+use Rattle.laws.specs.Written.{wrote-byte}
 use Rattle.lines.proofs.text.put_end.Statement.{statement}
 use Rattle.lines.proofs.text.put_end.Tie as tie
 

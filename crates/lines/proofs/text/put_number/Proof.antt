@@ -1,11 +1,11 @@
 -- `put_number`: the word, then the digits.
-use Rattle.lines.proofs.Runs.{wrote-then}
+use Rattle.laws.specs.Written.{wrote-then}
 use borrow.Author.Needs.{needs}
 use Rattle.lines.proofs.text.put_number.Statement.{statement}
 use Rattle.lines.proofs.text.put_number.Tie as tie
 
-put-word-requires : tie.Need-put-word-requires
-put-word-requires c κs = search needs
+put-bytes-requires : tie.Need-put-bytes-requires
+put-bytes-requires c κs = search needs
 
 put-decimal-requires : tie.Need-put-decimal-requires
 put-decimal-requires c κs = search needs
@@ -14,7 +14,7 @@ same-length : tie.Need-same-length
 same-length c = search needs
 
 returns : tie.Need-returns
-returns c = wrote-then (c .before .before .before .before .before .before .put-word .ensures) (c .before .before .put-decimal .ensures)
+returns c = wrote-then (c .before .before .before .before .before .before .put-bytes .ensures) (c .before .before .put-decimal .ensures)
 
 pub put-number-spec : {M : Type 1} → statement M
-put-number-spec = tie.close (tie.spec put-word-requires put-decimal-requires same-length returns)
+put-number-spec = tie.close (tie.spec put-bytes-requires put-decimal-requires same-length returns)

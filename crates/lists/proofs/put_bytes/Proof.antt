@@ -1,16 +1,16 @@
--- `put_word`: what is left of the word, written from the place reached, gives the whole word written.
+-- `lists::put_bytes`: what is left of the list, written from the place reached, gives the whole list written.
 use Prim.Native.Nat.{_-_}
 use native.Mathlib.Omega.{arith}
 use lib.ListN.{length}
-use Rattle.lines.proofs.Runs.{Writing, writing-start, writing-turn, writing-end}
-use Rattle.lines.proofs.text.put_word.Statement.{statement}
-use Rattle.lines.proofs.text.put_word.Tie as tie
+use Rattle.laws.specs.Written.{Writing, writing-start, writing-turn, writing-end}
+use Rattle.lists.proofs.put_bytes.Statement.{statement}
+use Rattle.lists.proofs.put_bytes.Tie as tie
 
 abbrev Inv-loop : tie.InvT-loop
-Inv-loop word out₀ at i₀ out i = Writing word out₀ at out i
+Inv-loop list out₀ at i₀ out i = Writing list out₀ at out i
 
 abbrev μ-loop : tie.MeasureT-loop
-μ-loop word out₀ at i₀ out i = length word - i
+μ-loop list out₀ at i₀ out i = length list - i
 
 loop-holds : tie.Need-loop-holds Inv-loop μ-loop
 loop-holds c = writing-start _ _ _
@@ -42,8 +42,8 @@ same-length c = c .before .loop .inv .long
 returns : tie.Need-returns Inv-loop μ-loop
 returns c = writing-end (c .before .loop .inv) (c .loop-test .left) (c .before .before .pre)
 
-pub put-word-spec : {M : Type 1} → statement M
-put-word-spec =
+pub put-bytes-spec : {M : Type 1} → statement M
+put-bytes-spec =
     tie.close
     (tie.spec
     Inv-loop

@@ -1,0 +1,5 @@
+pub mod Roomy
+pub mod Zeros
+pub mod Rooms
+pub mod Standing
+pub mod Results
