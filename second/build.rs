@@ -12,5 +12,10 @@ fn main() {
             let how = "`rt staticlib signalbox` in the top folder writes it";
             println!("cargo::error=there is no {library}: {how}");
         }
+        let target = std::env::var("CARGO_CFG_TARGET_ARCH").expect("cargo says what it builds for");
+        if target != "x86_64" {
+            let how = "README.md says how this is built for it elsewhere";
+            println!("cargo::warning=rt writes libraries for x86_64, and this is {target}: {how}");
+        }
     }
 }

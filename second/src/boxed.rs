@@ -1,6 +1,10 @@
 //! The box itself as a subject, through the C interface of `libsignalbox.a`. Everything that concerns that interface
 //! stands in this file and nowhere else.
 //!
+//! A box is a table of its functions: that of the library which is linked into this program, where it is, and that of a
+//! shared library which is opened when it is asked for, such as one made from the archive of an earlier box. One code
+//! serves both.
+//!
 //! A code is a number of 64 bits: its lowest byte is the document's number (1 to 5 a form, 6 too little room, 7 an image
 //! that is no plan's, 10 to 19 a refusal, 40 to 42 an accident, 100 to 104 what changes the state, 120 a file written, 200
 //! and above a verdict), and the bytes above it are the values.
@@ -12,6 +16,11 @@ use crate::model::reading::Form;
 use crate::model::rules::Broken;
 use crate::model::state::Arrays;
 use crate::subject::{Fenced, Kept, Lent, Memory, Prepared, Reason, Subject, EVENT, LINE, PAST};
+use std::ffi::{c_char, c_int, c_void, CStr, CString};
+use std::fs::File;
+use std::io::Read;
+use std::os::unix::ffi::OsStrExt;
+use std::path::Path;
 
 /// Where the lies and the signals start among the cells, and how many cells there are; trains start at 0.
 pub const LIES: usize = MOST_TRACKS;
@@ -50,25 +59,61 @@ impl Outcome {
     }
 }
 
+/// Declares the functions of a box: the table of them, those that are linked, and how a table is filled from a library.
+macro_rules! interface {
+    ($($name:ident $symbol:ident($($argument:ident: $kind:ty),*) $(-> $result:ty)?;)+) => {
+        struct Interface {
+            $($name: unsafe extern "C" fn($($argument: $kind),*) $(-> $result)?,)+
+        }
+
+        #[cfg(feature = "boxed")]
+        #[link(name = "signalbox", kind = "static")]
+        extern "C" {
+            $(fn $symbol($($argument: $kind),*) $(-> $result)?;)+
+        }
+
+        /// The box that is linked into this program.
+        #[cfg(feature = "boxed")]
+        pub static LINKED: Boxed = Boxed {
+            interface: Interface { $($name: $symbol,)+ },
+        };
+
+        impl Interface {
+            fn of(library: &Library) -> Result<Self, String> {
+                Ok(Interface {
+                    // Safety: a library that has the names of a box's functions is taken at its word that they are
+                    // these, as the linker takes the other one.
+                    $($name: unsafe {
+                        let address = library.address(stringify!($symbol))?;
+                        std::mem::transmute::<
+                            *mut c_void,
+                            unsafe extern "C" fn($($argument: $kind),*) $(-> $result)?,
+                        >(address)
+                    },)+
+                })
+            }
+        }
+    };
+}
+
 // A slice passes as a pointer and a length, an array as a pointer.
-#[link(name = "signalbox", kind = "static")]
-extern "C" {
-    fn signalbox_fresh(
+interface! {
+    fresh signalbox_fresh(
         cells: &mut [u8; CELLS],
         holds: &mut [u64; HOLDS],
-        unfinished: &mut [u8; UNFINISHED],
+        unfinished: &mut [u8; UNFINISHED]
     );
-    fn signalbox_read(file: *const u8, length: usize) -> u64;
-    fn signalbox_check(file: *const u8, length: usize) -> u64;
-    fn signalbox_step(
+    read signalbox_read(file: *const u8, length: usize) -> u64;
+    check signalbox_check(file: *const u8, length: usize) -> u64;
+    step signalbox_step(
         file: *const u8,
         length: usize,
         cells: &mut [u8; CELLS],
         holds: &mut [u64; HOLDS],
         event: *const u8,
-        event_length: usize,
+        event_length: usize
     ) -> u64;
-    fn signalbox_run(
+    run signalbox_run(
         file: *const u8,
         length: usize,
         cells: &mut [u8; CELLS],
@@ -76,10 +121,10 @@ extern "C" {
         events: *const u8,
         events_length: usize,
         answers: *mut u64,
-        room: usize,
+        room: usize
     ) -> Outcome;
-    fn signalbox_open(file: *const u8, length: usize, out: *mut u8, room: usize) -> Outcome;
-    fn signalbox_feed(
+    open signalbox_open(file: *const u8, length: usize, out: *mut u8, room: usize) -> Outcome;
+    feed signalbox_feed(
         file: *const u8,
         length: usize,
         cells: &mut [u8; CELLS],
@@ -88,28 +133,114 @@ extern "C" {
         bytes: *const u8,
         bytes_length: usize,
         out: *mut u8,
-        room: usize,
+        room: usize
     ) -> Outcome;
-    fn signalbox_finish(
+    finish signalbox_finish(
         file: *const u8,
         length: usize,
         cells: &mut [u8; CELLS],
         holds: &mut [u64; HOLDS],
         unfinished: &mut [u8; UNFINISHED],
         out: *mut u8,
-        room: usize,
+        room: usize
     ) -> Outcome;
-    fn signalbox_load(file: *const u8, length: usize, image: &mut Image) -> u64;
-    fn signalbox_write(image: *const Image, out: *mut u8, room: usize) -> u64;
+    load signalbox_load(file: *const u8, length: usize, image: &mut Image) -> u64;
+    write signalbox_write(image: *const Image, out: *mut u8, room: usize) -> u64;
 }
 
-/// Calls the box with a plan and, where it takes them, with the named arrays of a state or an image, with bytes and with
-/// memory to be written.
+extern "C" {
+    fn dlopen(path: *const c_char, how: c_int) -> *mut c_void;
+    fn dlsym(library: *mut c_void, name: *const c_char) -> *mut c_void;
+    fn dlerror() -> *const c_char;
+}
+
+/// `RTLD_NOW`: whatever the library lacks is found missing at once.
+const NOW: c_int = 2;
+
+/// A shared library. It stays open as long as the program runs.
+struct Library<'a> {
+    path: &'a Path,
+    handle: *mut c_void,
+}
+
+impl<'a> Library<'a> {
+    fn open(path: &'a Path) -> Result<Self, String> {
+        let unopened =
+            |why: String| format!("the library '{}' can't be opened: {why}", path.display());
+        // A bare name would be looked for elsewhere than here.
+        let whole = path
+            .canonicalize()
+            .map_err(|error| unopened(error.to_string()))?;
+        if !whole.is_file() {
+            return Err(unopened("it is no file".to_string()));
+        }
+        let whole = CString::new(whole.as_os_str().as_bytes());
+        let whole = whole.map_err(|error| unopened(error.to_string()))?;
+        // Safety: the path ends in a 0. What the library does when it is opened is its own matter.
+        let handle = unsafe { dlopen(whole.as_ptr(), NOW) };
+        match handle.is_null() {
+            // The loader says of such a library that it is not there.
+            true if is_for_another_processor(path) => Err(unopened(
+                "it is for another processor than this program".to_string(),
+            )),
+            true => Err(unopened(last_error())),
+            false => Ok(Library { path, handle }),
+        }
+    }
+
+    /// Where a function stands.
+    fn address(&self, name: &str) -> Result<*mut c_void, String> {
+        let path = self.path.display();
+        let missing = || format!("the library '{path}' has no function {name}, which this box has");
+        let name = CString::new(name).expect("a name has no 0 in it");
+        // Safety: the library is open, and the name ends in a 0.
+        let address = unsafe { dlsym(self.handle, name.as_ptr()) };
+        match address.is_null() {
+            true => Err(missing()),
+            false => Ok(address),
+        }
+    }
+}
+
+/// Whether a library is compiled for another processor than this program: the files of both say for
+/// which they are.
+fn is_for_another_processor(library: &Path) -> bool {
+    let this = std::env::current_exe().ok();
+    let this = this.and_then(|program| processor(&program));
+    let its = processor(library);
+    its.is_some() && this.is_some() && its != this
+}
+
+/// The processor that a compiled file is for, by its number there.
+fn processor(file: &Path) -> Option<[u8; 2]> {
+    let mut head = [0; 20];
+    File::open(file).ok()?.read_exact(&mut head).ok()?;
+    match head {
+        [0x7f, b'E', b'L', b'F', .., low, high] => Some([low, high]),
+        _ => None,
+    }
+}
+
+/// What went wrong with a library, in one line.
+fn last_error() -> String {
+    // Safety: it is nothing, or words that end in a 0 and stay until the next call about a library.
+    let words = unsafe {
+        let words = dlerror();
+        (!words.is_null()).then(|| CStr::from_ptr(words).to_string_lossy().into_owned())
+    };
+    words.unwrap_or_default().replace('\n', " ")
+}
+
+/// Calls a function of the box with a plan and, where it takes them, with the named arrays of a state or an image, with
+/// bytes and with memory to be written.
 macro_rules! call {
-    ($function:ident, $plan:expr $(, $state:ident: $($array:ident)+)? $(; $($bytes:ident)+)? $(=> $out:ident)?) => {
+    (
+        $interface:expr, $function:ident, $plan:expr
+        $(, $state:ident: $($array:ident)+)? $(; $($bytes:ident)+)? $(=> $out:ident)?
+    ) => {
         // Safety: all that is lent is lent for the call alone, slices with their lengths, and overlaps nothing.
         unsafe {
-            $function(
+            ($interface.$function)(
                 $plan.as_ptr(),
                 $plan.len(),
                 $($(&mut $state.$array,)+)?
@@ -200,60 +331,76 @@ fn code_mark(at: usize) -> u64 {
     !(at as u64)
 }
 
-pub struct Boxed;
+/// A box by its functions.
+pub struct Boxed {
+    interface: Interface,
+}
+
+impl Boxed {
+    /// The box of a shared library, or a sentence about why there is none.
+    pub fn open(path: &Path) -> Result<Self, String> {
+        let library = Library::open(path)?;
+        let interface = Interface::of(&library)?;
+        Ok(Boxed { interface })
+    }
+}
 
 /// How much of the input a whole run feeds at a time: no whole number of events.
 const PIECE: usize = 4096;
 
 impl Subject for Boxed {
     fn read(&self, plan: &[u8]) -> Option<Form> {
-        let code = call!(signalbox_read, plan);
+        let code = call!(self.interface, read, plan);
         let form = form(code);
         assert!(form.is_some() || code == 0, "the box read with code {code}");
         form
     }
 
     fn prepare<'a>(&'a self, plan: &'a [u8]) -> Box<dyn Prepared + 'a> {
-        Box::new(Open { plan })
+        let interface = &self.interface;
+        Box::new(Open { interface, plan })
     }
 
     fn fresh(&self, memory: &mut Kept) {
         lending(memory, |state| {
             // Safety: the arrays are lent for the call alone and overlap nothing.
             unsafe {
-                signalbox_fresh(&mut state.cells, &mut state.holds, &mut state.unfinished);
+                (self.interface.fresh)(&mut state.cells, &mut state.holds, &mut state.unfinished);
             }
         });
     }
 
     /// As a host would do it, with one buffer for all lines.
     fn run(&self, plan: &[u8], events: &[u8]) -> Vec<u8> {
+        let interface = &self.interface;
         let mut kept = Kept::fresh();
         self.fresh(&mut kept);
         let mut out = vec![0; (PIECE / EVENT + 1) * LINE];
-        let said = call!(signalbox_open, plan => out);
+        let said = call!(interface, open, plan => out);
         let mut lines = said.of(&out).to_vec();
         lending(&mut kept, |state| {
             for bytes in events.chunks(PIECE) {
-                let said = call!(signalbox_feed, plan, state: cells holds unfinished; bytes => out);
+                let said =
+                    call!(interface, feed, plan, state: cells holds unfinished; bytes => out);
                 lines.extend(said.of(&out));
             }
-            let said = call!(signalbox_finish, plan, state: cells holds unfinished => out);
+            let said = call!(interface, finish, plan, state: cells holds unfinished => out);
             lines.extend(said.of(&out));
         });
         lines
     }
 
     fn load(&self, plan: &[u8], lent: &mut Fenced) -> Result<(), Reason> {
-        let code = call!(signalbox_load, plan, lent: image);
+        let code = call!(self.interface, load, plan, lent: image);
         must_be_whole(lent);
         reason(code).map_or(Ok(()), Err)
     }
 
     fn write(&self, lent: &mut Fenced, memory: &mut Memory) -> Result<usize, Reason> {
         let out = memory.lent();
+        let write = self.interface.write;
         // Safety: the image and the memory are lent for the call alone, the memory with its length, and don't overlap.
-        let code = unsafe { signalbox_write(&raw mut lent.image, out.as_mut_ptr(), out.len()) };
+        let code = unsafe { write(&raw mut lent.image, out.as_mut_ptr(), out.len()) };
         must_be_whole(lent);
         written(code)
     }
@@ -266,12 +413,13 @@ fn must_be_whole(lent: &Fenced) {
 
 /// A plan as its bytes: the box reads it at each call.
 struct Open<'a> {
+    interface: &'a Interface,
     plan: &'a [u8],
 }
 
 impl Prepared for Open<'_> {
     fn check(&mut self) -> Verdict {
-        let code = call!(signalbox_check, self.plan);
+        let code = call!(self.interface, check, self.plan);
         match form(code) {
             Some(form) => Verdict::Unreadable(form),
             None if code == 200 => Verdict::Accepted,
@@ -285,7 +433,7 @@ impl Prepared for Open<'_> {
     fn step(&mut self, arrays: &mut Arrays, event: &[u8]) -> Answer {
         answer(played(
             arrays,
-            |state| call!(signalbox_step, self.plan, state: cells holds; event),
+            |state| call!(self.interface, step, self.plan, state: cells holds; event),
         ))
     }
 
@@ -293,7 +441,7 @@ impl Prepared for Open<'_> {
         lend(room, code_mark, answer, |answers| {
             played(
                 &mut kept.state,
-                |state| call!(signalbox_run, self.plan, state: cells holds; events => answers),
+                |state| call!(self.interface, run, self.plan, state: cells holds; events => answers),
             )
         })
     }
@@ -302,7 +450,7 @@ impl Prepared for Open<'_> {
         lend_bytes(room, |out| {
             lending(
                 kept,
-                |state| call!(signalbox_feed, self.plan, state: cells holds unfinished; bytes => out),
+                |state| call!(self.interface, feed, self.plan, state: cells holds unfinished; bytes => out),
             )
         })
     }
@@ -311,13 +459,13 @@ impl Prepared for Open<'_> {
         lend_bytes(room, |out| {
             lending(
                 kept,
-                |state| call!(signalbox_finish, self.plan, state: cells holds unfinished => out),
+                |state| call!(self.interface, finish, self.plan, state: cells holds unfinished => out),
             )
         })
     }
 
     fn open(&mut self, room: usize) -> Lent<u8> {
-        lend_bytes(room, |out| call!(signalbox_open, self.plan => out))
+        lend_bytes(room, |out| call!(self.interface, open, self.plan => out))
     }
 }
 

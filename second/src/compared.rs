@@ -6,7 +6,8 @@ pub const IS_LINKED: bool = cfg!(feature = "boxed");
 
 const NOT_LINKED: &str =
     "the box is not linked (to link it: `rt staticlib signalbox` in the top folder, \
-     then `cargo build --release --offline --features boxed` in second/)";
+     then `cargo build --release --offline --features boxed` in second/, \
+     or on Arm what second/README.md has)";
 
 /// What is compared where the box is linked, and where it is not.
 pub struct Compared {

@@ -5,7 +5,6 @@
 pub mod accepted;
 pub mod bench;
 pub mod book;
-#[cfg(feature = "boxed")]
 pub mod boxed;
 pub mod compare;
 pub mod compared;
@@ -28,5 +27,6 @@ pub mod sessions;
 pub mod singles;
 pub mod subject;
 pub mod told;
+pub mod walks;
 pub mod words;
 pub mod writing;

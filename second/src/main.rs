@@ -1,13 +1,15 @@
 #![doc = include_str!("../README.md")]
 
+use second::bench::{self, Boxes};
 use second::book::MODEL;
+use second::boxed::Boxed;
 use second::compare::driver::{self, Search};
 use second::compared::{of_seed, CASES, FOLDERS, IS_LINKED, TIMES};
 use second::definitions::folders;
 use second::program::child::Executable;
 use second::subject::{Kept, Lent, Subject, EVENT, LINE};
 use second::words::{self, Command, USAGE};
-use second::{bench, definitions, limits, mutants, program, sessions, singles};
+use second::{definitions, limits, mutants, program, sessions, singles};
 use std::io::{self, Read, Write};
 use std::panic::{self, PanicHookInfo};
 use std::path::Path;
@@ -16,7 +18,7 @@ use std::process::{self, ExitCode};
 /// What is held against the model: the box where it is linked.
 #[cfg(feature = "boxed")]
 fn subject() -> &'static dyn Subject {
-    &second::boxed::Boxed
+    &second::boxed::LINKED
 }
 
 /// Without the box the model itself, which tries the generators and the counts.
@@ -59,7 +61,10 @@ fn main() -> ExitCode {
 /// `println!` panics where its line can't be written. That is no mistake in this program: whoever
 /// reads may have read enough, as `head` does, and for anything else a sentence will do.
 fn end_where_nothing_can_be_said(panic: &PanicHookInfo) {
-    let words = panic.payload_as_str().unwrap_or_default();
+    let payload = panic.payload();
+    let words = payload.downcast_ref::<&str>().copied();
+    let words = words.or(payload.downcast_ref::<String>().map(String::as_str));
+    let words = words.unwrap_or_default();
     let Some(lost) = words.strip_prefix("failed printing to ") else {
         return;
     };
@@ -81,11 +86,7 @@ fn carry_out(command: Command) -> Result<bool, String> {
         Command::Readable(directory, seed) => return readable(directory, seed),
         Command::List(directory) => print_list(directory)?,
         Command::Steps => print!("{}", singles::told()),
-        Command::Bench => {
-            TIMES.begin();
-            bench::bench(other_subject());
-            TIMES.end("done");
-        }
+        Command::Bench(library) => bench(library)?,
         Command::Limits => {
             for (name, size) in limits::all() {
                 println!("{name} {size}");
@@ -129,6 +130,21 @@ fn readable(directory: &Path, seed: u64) -> Result<bool, String> {
     let is_good = definitions::catch_all(folders, seed, other_subject());
     FOLDERS.end(&of_seed(seed, is_good));
     Ok(is_good)
+}
+
+/// Another box is opened before anything else, so that a path that is wrong is told at once.
+fn bench(library: Option<&Path>) -> Result<(), String> {
+    let other = library.map(Boxed::open).transpose()?;
+    TIMES.begin();
+    if let Some(library) = library {
+        println!("timed too: the other box, {}", library.display());
+    }
+    bench::bench(Boxes {
+        linked: other_subject(),
+        other: other.as_ref().map(|other| other as &dyn Subject),
+    });
+    TIMES.end("done");
+    Ok(())
 }
 
 fn print_list(directory: &Path) -> Result<(), String> {

@@ -13,14 +13,15 @@ use crate::parts;
 use crate::random::Random;
 use crate::rows;
 use crate::told::told;
+use crate::walks;
 use crate::writing::write;
 use std::fs;
 use std::io;
 use std::path::Path;
 
 /// Every session: those of the document, the odd ends of files and event lists, the last rows and
-/// the parts of the rules, the files with one bad byte, the small junctions, what is
-/// allowed and the long ones.
+/// the parts of the rules, the files with one bad byte, the small junctions, the walks over lists,
+/// what is allowed and the long ones.
 pub fn all() -> Vec<Session> {
     let mut sessions = document::sessions();
     sessions.extend(odd_plans());
@@ -31,6 +32,7 @@ pub fn all() -> Vec<Session> {
     sessions.extend(numbers::sessions());
     sessions.extend(junctions::sessions());
     sessions.extend(orders::sessions());
+    sessions.extend(walks::sessions());
     sessions.extend(accepted::sessions());
     sessions.extend(long::sessions());
     sessions

@@ -11,7 +11,7 @@ pub const USAGE: &str =
        second --readable DIR [--seed N]    catch every wrong definition in the session folders
        second --list DIR                   print the list of wrong definitions, definitions.txt
        second --steps                      print the text of the single steps, steps.txt
-       second --bench                      print times
+       second --bench [LIBRARY]            print times, those of another box's shared library too
        second --limits                     print the sizes that it goes by
        second sessions DIR                 write the session folders
        second run                          read plan.bin and events like the program itself
@@ -28,7 +28,8 @@ pub enum Command<'a> {
     Readable(&'a Path, u64),
     List(&'a Path),
     Steps,
-    Bench,
+    /// With the path of a shared library, if another box is to be timed too.
+    Bench(Option<&'a Path>),
     Limits,
     Sessions(&'a Path),
     Run,
@@ -51,7 +52,7 @@ pub fn understood<'a>(words: &'a [&'a str]) -> Result<Command<'a>, String> {
         "--readable" => Command::Readable(rest.path(READ_FROM)?, rest.seed()?),
         "--list" => Command::List(rest.path(READ_FROM)?),
         "--steps" => Command::Steps,
-        "--bench" => Command::Bench,
+        "--bench" => Command::Bench(rest.optional_path()),
         "--limits" => Command::Limits,
         "sessions" => Command::Sessions(rest.path("DIR, where the session folders are written")?),
         "run" => Command::Run,
@@ -100,6 +101,11 @@ impl<'a> Words<'a> {
 
     fn path(&mut self, what: &str) -> Result<&'a Path, String> {
         self.needed(what).map(Path::new)
+    }
+
+    /// A path, if the next word can be one.
+    fn optional_path(&mut self) -> Option<&'a Path> {
+        self.path("").ok()
     }
 
     fn number(&mut self) -> Result<u64, String> {

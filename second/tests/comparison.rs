@@ -307,3 +307,28 @@ fn too_few_cases_are_noticed() {
     assert!(report(&counts).len() < few);
     assert!(!report(&counts).is_empty());
 }
+
+#[test]
+fn the_rarest_length_and_the_rarest_number_must_be_reached_too() {
+    let too_rare = |counts: &Counts| {
+        let too_few = report(counts).into_iter();
+        let names = too_few.filter(|name| name.contains("the rarest"));
+        names.collect::<Vec<String>>()
+    };
+    let mut counts = Counts::default();
+    for members in &mut counts.spread {
+        members.fill(100);
+    }
+    assert!(too_rare(&counts).is_empty());
+    let ends = [(1, 64), (1, 64), (1, 16), (1, 16), (1, 16), (1, 16)];
+    let ends = ends.into_iter().chain([(0, 47), (0, 15), (0, 47), (0, 47)]);
+    for (family, (first, last)) in ends.enumerate() {
+        for member in [first, last] {
+            counts.spread[family][member] = 99;
+            let names = too_rare(&counts);
+            assert_eq!(names.len(), 1, "{names:?}");
+            assert!(names[0].contains(&format!(" {member}")), "{names:?}");
+            counts.spread[family][member] = 100;
+        }
+    }
+}

@@ -5,7 +5,7 @@ use second::book::MODEL;
 use second::definitions::folders::{self, Folder};
 use second::definitions::{all, held, list, shown, singles, too_strict, Definition, Held};
 use second::document::Session;
-use second::{accepted, forms, junctions, mutants, numbers, orders, parts, sessions};
+use second::{accepted, forms, junctions, mutants, numbers, orders, parts, sessions, walks};
 use std::collections::{BTreeMap, BTreeSet};
 use std::path::{Path, PathBuf};
 
@@ -218,6 +218,26 @@ fn each_named_definition_shows_in_the_session_made_for_it() {
     }
 }
 
+/// A wrong walk shows where the walks are told one by one, not only by chance elsewhere.
+#[test]
+fn every_wrong_walk_shows_in_the_sessions_made_for_walks() {
+    let made: Vec<&str> = walks::sessions()
+        .iter()
+        .map(|session| session.name)
+        .collect();
+    let mut folders = in_full();
+    folders.retain(|folder| made.contains(&folder.name.as_str()));
+    assert_eq!(folders.len(), made.len());
+    let wrong: BTreeSet<&str> = mutants::wrong_walks().iter().map(|one| one.name).collect();
+    assert_eq!(wrong.len(), 93);
+    let mut tried = 0;
+    for one in all().iter().filter(|one| wrong.contains(one.name.as_str())) {
+        assert!(shown(one, &folders).is_some(), "{}", one.name);
+        tried += 1;
+    }
+    assert_eq!(tried, wrong.len());
+}
+
 #[test]
 fn no_small_session_can_be_left_out() {
     let small = [
@@ -225,6 +245,7 @@ fn no_small_session_can_be_left_out() {
         numbers::sessions(),
         junctions::sessions(),
         orders::sessions(),
+        walks::sessions(),
         parts::sessions(),
         accepted::sessions(),
     ]

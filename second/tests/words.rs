@@ -3,8 +3,10 @@
 
 use second::compared::{of_seed, CASES, FOLDERS, TIMES};
 use second::program::child::Executable;
-use std::fs::{remove_dir, File};
-use std::io::{pipe, BufRead, BufReader};
+use std::fs::{remove_dir, remove_file, File};
+use std::io::{BufRead, BufReader};
+use std::os::fd::OwnedFd;
+use std::os::unix::net::UnixStream;
 use std::path::Path;
 use std::process::{Command, Output, Stdio};
 
@@ -84,7 +86,14 @@ fn the_usage_and_the_readme_have_the_same_commands() {
 fn a_word_that_makes_no_sense_is_named() {
     refuses(&["--sed"], 2, "what is '--sed'?");
     refuses(&["--seed", "1", "now"], 2, "what is 'now' after '1'?");
-    refuses(&["--bench", "x"], 2, "what is 'x' after '--bench'?");
+    refuses(&["--bench", "x", "y"], 2, "what is 'y' after 'x'?");
+    refuses(
+        &["--bench", "--long"],
+        2,
+        "what is '--long' after '--bench'?",
+    );
+    // As an unset variable of the shell has it.
+    refuses(&["--bench", ""], 2, "what is '' after '--bench'?");
     let long = "what is '--long' after '--mutants'?";
     refuses(&["--mutants", "--long"], 2, long);
     refuses(&["--list", "a", "b"], 2, "what is 'b' after 'a'?");
@@ -192,6 +201,40 @@ fn a_program_that_cannot_be_run_is_met_with_a_sentence() {
 }
 
 #[test]
+fn a_library_that_is_no_box_is_met_with_a_sentence() {
+    let unopened = |path| format!("the library '{path}' can't be opened: ");
+    let missing = unopened("/nowhere.so") + "No such file or directory";
+    refuses(&["--bench", "/nowhere.so"], 1, &missing);
+    refuses(&["--bench", "Cargo.toml"], 1, &unopened("Cargo.toml"));
+    let folder = unopened("src") + "it is no file";
+    refuses(&["--bench", "src"], 1, &folder);
+    // Some library that there is, on Linux: one that this test itself has open.
+    let maps = std::fs::read_to_string("/proc/self/maps").unwrap_or_default();
+    let mut paths = maps
+        .lines()
+        .filter_map(|line| line.split_whitespace().nth(5));
+    let library = paths.find(|path| path.starts_with('/') && path.contains("/libc.so"));
+    if let Some(library) = library {
+        let lacking = format!("the library '{library}' has no function signalbox_fresh");
+        refuses(&["--bench", library], 1, &lacking);
+    }
+}
+
+#[test]
+fn a_library_for_another_processor_is_met_with_a_sentence() {
+    let mut head = std::fs::read(SECOND).expect("the program can be read");
+    head.truncate(64);
+    // Where such a file says for which processor it is.
+    head[18] ^= 1;
+    let library = std::env::temp_dir().join(format!("second-{}.so", std::process::id()));
+    std::fs::write(&library, head).expect("a file can be written");
+    let path = library.to_str().expect("it is a plain name");
+    let sentence = format!("the library '{path}' can't be opened: it is for another processor");
+    refuses(&["--bench", path], 1, &sentence);
+    remove_file(&library).expect("it was written");
+}
+
+#[test]
 fn a_directory_that_cannot_be_read_or_written_is_met_with_a_sentence() {
     let unread = |directory| format!("the session folders of '{directory}' can't be read: ");
     for command in ["--readable", "--list"] {
@@ -211,9 +254,9 @@ fn a_directory_that_cannot_be_read_or_written_is_met_with_a_sentence() {
 #[test]
 fn an_output_that_nobody_reads_is_no_panic() {
     for words in [["--limits"].as_slice(), &["--steps"], &["--case", "5"]] {
-        let (reader, writer) = pipe().expect("a pipe can be made");
+        let (reader, writer) = UnixStream::pair().expect("a pair can be made");
         drop(reader);
-        let output = second(words).stdout(writer).output();
+        let output = second(words).stdout(OwnedFd::from(writer)).output();
         let output = output.expect("the program starts");
         assert_eq!(text(&output.stderr), "", "{words:?}");
         assert_eq!(output.status.code(), Some(1), "{words:?}");

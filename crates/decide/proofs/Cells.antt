@@ -1,6 +1,6 @@
 -- What the code's tests of one cell say, test by test.
 use mathlib.Core.Path.{_≡_, refl, sym, _∙_}
-use mathlib.Core.Bool.{Bool, true, false, not}
+use mathlib.Core.Bool.{Bool, true, false, not, _&&_}
 use mathlib.Core.Logic.{_≢_, inl, inr}
 use mathlib.Core.List.{List}
 use Prim.Native.Nat.{ℕ}
@@ -9,38 +9,13 @@ use lib.Dec.{eqb}
 use borrow.Author.Tests.{eqb-true, eqb-false, eq-eqb, ne-eqb}
 use Rattle.laws.specs.declared.Found.{Found}
 use Rattle.laws.specs.declared.Found.the-variants.{At, Nothing}
-use Rattle.laws.specs.Tests.{split}
+use Rattle.laws.specs.Tests.{Is, split, clash, and-r, or-l, or-r}
 use Rattle.laws.specs.Lists.{has}
 use Rattle.plan.specs.Kinds.{legged, out, leg}
 use Rattle.plan.specs.Records.{Plan, trackOf}
 use Rattle.plan.specs.Layout.{signalAt}
 use Rattle.plan.specs.Routes.{listed}
-use Rattle.state.specs.Holds.{empty}
-use Rattle.events.specs.Decide.{hasTrain, isRed, isReverse, busy, heldListed, lieAfter, derails, redAt, wayOut, runsThrough}
-
--- 13: a track of a clear list has a train.
-module _ (clear trains : List ℕ) (u : ℕ) where
-  pub busy-free : getD trains u 0 ≡ 0 → false ≡ busy clear trains u
-  unfolding busy hasTrain
-  busy-free z = rw (eq-eqb (getD trains u 0) 0 z)
-
-  pub busy-listed : getD trains u 0 ≢ 0 → has u clear ≡ busy clear trains u
-  unfolding busy hasTrain
-  busy-listed z = rw (ne-eqb (getD trains u 0) 0 z)
-
--- 14: a listed point is held by any route.
-module _ (normal reverse holds : List ℕ) (q : ℕ) where
-  pub held-none : empty (getD holds q 0) ≡ true → false ≡ heldListed normal reverse holds q
-  unfolding heldListed
-  held-none z = rw z
-
-  pub held-normal : empty (getD holds q 0) ≡ false → has q normal ≡ true → true ≡ heldListed normal reverse holds q
-  unfolding heldListed listed
-  held-normal z n = rw (z, n)
-
-  pub held-reverse : empty (getD holds q 0) ≡ false → has q normal ≡ false → has q reverse ≡ heldListed normal reverse holds q
-  unfolding heldListed listed
-  held-reverse z n = rw (z, n)
+use Rattle.events.specs.Decide.{hasTrain, isRed, isReverse, lieAfter, derails, redAt, wayOut, runsThrough}
 
 -- 42: a point that has a train gets another lie in the end.
 
@@ -68,6 +43,21 @@ module _ (normal reverse trains lies : List ℕ) (q : ℕ) where
       pub derails-unlisted : has q normal ≡ false → false ≡ derails normal reverse trains lies q
       unfolding derails hasTrain lieAfter
       derails-unlisted n = rw (ne-eqb (getD trains q 0) 0 z, r, n, eq-eqb (getD lies q 0) (getD lies q 0) refl)
+
+-- A point that derails is listed: any other keeps its lie.
+same-and : (a b : Bool) → (Is a → Is b) → a ≡ (a && b)
+same-and true b h = sym (h refl)
+same-and false b h = refl
+
+pub derails-listed : (normal reverse trains lies : List ℕ) (q : ℕ) → derails normal reverse trains lies q ≡ (derails normal reverse trains lies q && listed normal reverse q)
+unfolding derails lieAfter listed
+derails-listed normal reverse trains lies q = same-and _ _ (λ t. elim (split (has q reverse)) [
+  | inl r ↦ or-r (has q normal) (has q reverse) r
+  | inr r ↦ elim (split (has q normal)) [
+    | inl n ↦ or-l (has q normal) (has q reverse) n
+    | inr n ↦ clash (and-r (hasTrain trains q) _ t) (rw (r, n, eq-eqb (getD lies q 0) (getD lies q 0) refl))
+  ]
+])
 
 -- 19: the signal at a track's end, if it is red.
 module _ (p : Plan) (signals : List ℕ) (u : ℕ) {found : Found} (f : found ≡ signalAt p u) where

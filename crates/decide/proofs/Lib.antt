@@ -1,4 +1,5 @@
 pub mod Cells
+pub mod Along
 pub mod Within
 pub mod Acting
 pub mod Results

@@ -9,7 +9,8 @@ use Rattle.laws.specs.Search.{lowest}
 use Rattle.plan.specs.Layout.{signalAt}
 use Rattle.plan.specs.Image.{planOf}
 use Rattle.state.specs.Cells.{trainsIn, liesIn, signalsIn}
-use Rattle.events.specs.Decide.{hasTrain, isReverse, busy, heldListed, derails, stands, busyTrack, heldPoint, derailedPoint, redAt, wayOut, runsThrough}
+use Rattle.decide.specs.Along.{firstOf, lower, held}
+use Rattle.events.specs.Decide.{hasTrain, isReverse, derails, stands, busyTrack, heldPoint, derailedPoint, redAt, wayOut, runsThrough}
 
 pub has-train-once : (cells : List ℕ) (track : ℕ) (r r₂ : Bool)
     → (r ≡ hasTrain (trainsIn cells) track)
@@ -23,11 +24,11 @@ pub is-reverse-once : (cells : List ℕ) (point : ℕ) (r r₂ : Bool)
     → r is r₂
 is-reverse-once cells point r r₂ by-one by-other = equal-once _ _ _ by-one by-other
 
-pub busy-once : (clear cells : List ℕ) (track : ℕ) (r r₂ : Bool)
-    → (r ≡ busy clear (trainsIn cells) track)
-    → (r₂ ≡ busy clear (trainsIn cells) track)
+pub busy-in-once : (tracks cells : List ℕ) (r r₂ : Found)
+    → (r ≡ firstOf (hasTrain (trainsIn cells)) tracks)
+    → (r₂ ≡ firstOf (hasTrain (trainsIn cells)) tracks)
     → r is r₂
-busy-once clear cells track r r₂ by-one by-other = equal-once _ _ _ by-one by-other
+busy-in-once tracks cells r r₂ by-one by-other = equal-once _ _ _ by-one by-other
 
 pub busy-track-once : (count : ℕ) (clear cells : List ℕ) (r r₂ : Found)
     → (r ≡ busyTrack count clear (trainsIn cells))
@@ -35,11 +36,23 @@ pub busy-track-once : (count : ℕ) (clear cells : List ℕ) (r r₂ : Found)
     → r is r₂
 busy-track-once count clear cells r r₂ by-one by-other = equal-once _ _ _ by-one by-other
 
-pub held-listed-once : (normal reverse holds : List ℕ) (point : ℕ) (r r₂ : Bool)
-    → (r ≡ heldListed normal reverse holds point)
-    → (r₂ ≡ heldListed normal reverse holds point)
+pub lower-once : (one other r r₂ : Found)
+    → (r ≡ lower one other)
+    → (r₂ ≡ lower one other)
     → r is r₂
-held-listed-once normal reverse holds point r r₂ by-one by-other = equal-once _ _ _ by-one by-other
+lower-once one other r r₂ by-one by-other = equal-once _ _ _ by-one by-other
+
+pub is-held-once : (holds : List ℕ) (point : ℕ) (r r₂ : Bool)
+    → (r ≡ held holds point)
+    → (r₂ ≡ held holds point)
+    → r is r₂
+is-held-once holds point r r₂ by-one by-other = equal-once _ _ _ by-one by-other
+
+pub held-in-once : (points holds : List ℕ) (r r₂ : Found)
+    → (r ≡ firstOf (held holds) points)
+    → (r₂ ≡ firstOf (held holds) points)
+    → r is r₂
+held-in-once points holds r r₂ by-one by-other = equal-once _ _ _ by-one by-other
 
 pub held-point-once : (count : ℕ) (normal reverse holds : List ℕ) (r r₂ : Found)
     → (r ≡ heldPoint count normal reverse holds)
@@ -52,6 +65,12 @@ pub derails-once : (normal reverse cells : List ℕ) (point : ℕ) (r r₂ : Boo
     → (r₂ ≡ derails normal reverse (trainsIn cells) (liesIn cells) point)
     → r is r₂
 derails-once normal reverse cells point r r₂ by-one by-other = equal-once _ _ _ by-one by-other
+
+pub derailed-in-once : (points normal reverse cells : List ℕ) (r r₂ : Found)
+    → (r ≡ firstOf (derails normal reverse (trainsIn cells) (liesIn cells)) points)
+    → (r₂ ≡ firstOf (derails normal reverse (trainsIn cells) (liesIn cells)) points)
+    → r is r₂
+derailed-in-once points normal reverse cells r r₂ by-one by-other = equal-once _ _ _ by-one by-other
 
 pub derailed-point-once : (count : ℕ) (normal reverse cells : List ℕ) (r r₂ : Found)
     → (r ≡ derailedPoint count normal reverse (trainsIn cells) (liesIn cells))

@@ -1,10 +1,12 @@
-// The tests of document 01, each over the lists and arrays that it looks at. Where several tracks or points apply, the lowest is named.
+// The tests of document 01, each over the lists and arrays that it looks at. Where a test finds several tracks or points, the lowest is named; what
+// ends in `_in` finds the first of a list.
 use laws::Found;
 use layout::home_of;
 use layout::is_legged;
 use layout::leg_of;
 use layout::way_out;
 use lists::has;
+use lists::wide;
 use plan::image::signals as signal_count;
 use plan::limits::IMAGE;
 use plan::limits::TRACKS;
@@ -15,12 +17,14 @@ use state::cells::shown_at;
 use state::cells::train_at;
 ghost use mathlib.Core.Path.{_≡_};
 ghost use Prim.Native.Nat.{_<_, _≤_};
+ghost use Rattle.laws.specs.Lists.{All};
 ghost use Rattle.laws.specs.Search.{lowest};
 ghost use Rattle.plan.specs.Limits.{mostTracks};
 ghost use Rattle.plan.specs.Layout.{signalAt};
 ghost use Rattle.plan.specs.Image.{planOf};
 ghost use Rattle.state.specs.Cells.{trainsIn, liesIn, signalsIn};
-ghost use Rattle.events.specs.Decide.{hasTrain, isReverse, busy, heldListed, derails, stands, busyTrack, heldPoint, derailedPoint, redAt, wayOut, runsThrough};
+ghost use Rattle.decide.specs.Along.{RisingTracks, firstOf, lower, held};
+ghost use Rattle.events.specs.Decide.{hasTrain, isReverse, derails, stands, busyTrack, heldPoint, derailedPoint, redAt, wayOut, runsThrough};
 
 // Whether a track has a train.
 pub fn has_train(cells: &[u8; CELLS], track: usize) -> bool
@@ -38,63 +42,83 @@ fn is_reverse(cells: &[u8; CELLS], point: usize) -> bool
     lie_at(cells, point) == 1
 }
 
-// 13: a track of a clear list has a train.
-fn busy(clear: &[u8], cells: &[u8; CELLS], track: usize) -> bool
-    requires { ⌜ track < mostTracks ⌝ }
-    ensures { λ r. ⌜ r ≡ busy (now (clear .entry)) (trainsIn (now (cells .entry))) track ⌝ }
+// The first track of a list that has a train.
+fn busy_in(tracks: &[u8], cells: &[u8; CELLS]) -> Found
+    requires { ⌜ All (λ u. u < mostTracks) (now tracks) ⌝ }
+    ensures { λ r. ⌜ r ≡ firstOf (hasTrain (trainsIn (now (cells .entry)))) (now (tracks .entry)) ⌝ }
 {
-    if train_at(cells, track) == 0 {
-        return false;
-    }
-    has(clear, track)
-}
-
-pub fn busy_track(count: usize, clear: &[u8], cells: &[u8; CELLS]) -> Found
-    requires { ⌜ count ≤ mostTracks ⌝ }
-    ensures { λ r. ⌜ r ≡ busyTrack count (now (clear .entry)) (trainsIn (now (cells .entry))) ⌝ }
-{
-    let mut track = 0;
-    while track < count {
-        if busy(clear, cells, track) {
+    let mut place = 0;
+    while place < tracks.len() {
+        let track = wide(tracks[place]);
+        if has_train(cells, track) {
             return Found::At(track);
         }
-        track += 1;
+        place += 1;
     }
     Found::Nothing
 }
 
-// 14: a listed point is held by any route.
-fn held_listed(normal: &[u8], reverse: &[u8], holds: &[u64; TRACKS], point: usize) -> bool
+// 13: the lowest track of a clear list that has a train. A clear list rises, so that it is the first. The count of tracks is for the contract alone,
+// which names the lowest of so many; so it is for 14 and 42.
+pub fn busy_track(count: usize, clear: &[u8], cells: &[u8; CELLS]) -> Found
+    requires { ⌜ (count ≤ mostTracks) × RisingTracks count (now clear) ⌝ }
+    ensures { λ r. ⌜ r ≡ busyTrack count (now (clear .entry)) (trainsIn (now (cells .entry))) ⌝ }
+{
+    busy_in(clear, cells)
+}
+
+// The lower of what two walks find.
+fn lower(one: Found, other: Found) -> Found
+    ensures { λ r. ⌜ r ≡ lower one other ⌝ }
+{
+    let Found::At(x) = one else {
+        return other;
+    };
+    let Found::At(y) = other else {
+        return one;
+    };
+    if y < x {
+        return other;
+    }
+    one
+}
+
+// Whether some route holds a point.
+fn is_held(holds: &[u64; TRACKS], point: usize) -> bool
     requires { ⌜ point < mostTracks ⌝ }
-    ensures { λ r. ⌜ r ≡ heldListed (now (normal .entry)) (now (reverse .entry)) (now (holds .entry)) point ⌝ }
+    ensures { λ r. ⌜ r ≡ held (now (holds .entry)) point ⌝ }
 {
     let holders = HoldSet {
         routes: holds[point],
     };
-    if holders.is_empty() {
-        return false;
-    }
-    if has(normal, point) {
-        return true;
-    }
-    has(reverse, point)
+    !holders.is_empty()
 }
 
-pub fn held_point(count: usize, normal: &[u8], reverse: &[u8], holds: &[u64; TRACKS]) -> Found
-    requires { ⌜ count ≤ mostTracks ⌝ }
-    ensures { λ r. ⌜ r ≡ heldPoint count (now (normal .entry)) (now (reverse .entry)) (now (holds .entry)) ⌝ }
+// The first point of a list that some route holds.
+fn held_in(points: &[u8], holds: &[u64; TRACKS]) -> Found
+    requires { ⌜ All (λ q. q < mostTracks) (now points) ⌝ }
+    ensures { λ r. ⌜ r ≡ firstOf (held (now (holds .entry))) (now (points .entry)) ⌝ }
 {
-    let mut point = 0;
-    while point < count {
-        if held_listed(normal, reverse, holds, point) {
+    let mut i = 0;
+    while i < points.len() {
+        let point = wide(points[i]);
+        if is_held(holds, point) {
             return Found::At(point);
         }
-        point += 1;
+        i += 1;
     }
     Found::Nothing
 }
 
-// 42: a point that has a train gets another lie in the end. Reverse wins.
+// 14: the lowest listed point that some route holds.
+pub fn held_point(count: usize, normal: &[u8], reverse: &[u8], holds: &[u64; TRACKS]) -> Found
+    requires { ⌜ (count ≤ mostTracks) × RisingTracks count (now normal) × RisingTracks count (now reverse) ⌝ }
+    ensures { λ r. ⌜ r ≡ heldPoint count (now (normal .entry)) (now (reverse .entry)) (now (holds .entry)) ⌝ }
+{
+    lower(held_in(normal, holds), held_in(reverse, holds))
+}
+
+// Whether a point has a train and gets another lie in the end. Reverse wins.
 fn derails(normal: &[u8], reverse: &[u8], cells: &[u8; CELLS], point: usize) -> bool
     requires { ⌜ point < mostTracks ⌝ }
     ensures { λ r. ⌜ r ≡ derails (now (normal .entry)) (now (reverse .entry)) (trainsIn (now (cells .entry))) (liesIn (now (cells .entry))) point ⌝ }
@@ -111,18 +135,31 @@ fn derails(normal: &[u8], reverse: &[u8], cells: &[u8; CELLS], point: usize) -> 
     false
 }
 
-pub fn derailed_point(count: usize, normal: &[u8], reverse: &[u8], cells: &[u8; CELLS]) -> Found
-    requires { ⌜ count ≤ mostTracks ⌝ }
-    ensures { λ r. ⌜ r ≡ derailedPoint count (now (normal .entry)) (now (reverse .entry)) (trainsIn (now (cells .entry))) (liesIn (now (cells .entry))) ⌝ }
+// The first point of a list that is so. Which lie it gets is asked of both lists.
+fn derailed_in(points: &[u8], normal: &[u8], reverse: &[u8], cells: &[u8; CELLS]) -> Found
+    requires { ⌜ All (λ q. q < mostTracks) (now points) ⌝ }
+    ensures { λ r. ⌜ r ≡ firstOf (derails (now (normal .entry)) (now (reverse .entry)) (trainsIn (now (cells .entry))) (liesIn (now (cells .entry)))) (now (points .entry)) ⌝ }
 {
-    let mut point = 0;
-    while point < count {
+    let mut i = 0;
+    while i < points.len() {
+        let point = wide(points[i]);
         if derails(normal, reverse, cells, point) {
             return Found::At(point);
         }
-        point += 1;
+        i += 1;
     }
     Found::Nothing
+}
+
+// 42: the lowest listed point that has a train and gets another lie.
+pub fn derailed_point(count: usize, normal: &[u8], reverse: &[u8], cells: &[u8; CELLS]) -> Found
+    requires { ⌜ (count ≤ mostTracks) × RisingTracks count (now normal) × RisingTracks count (now reverse) ⌝ }
+    ensures { λ r. ⌜ r ≡ derailedPoint count (now (normal .entry)) (now (reverse .entry)) (trainsIn (now (cells .entry))) (liesIn (now (cells .entry))) ⌝ }
+{
+    lower(
+        derailed_in(normal, normal, reverse, cells),
+        derailed_in(reverse, normal, reverse, cells),
+    )
 }
 
 // 17, 18: the track that a train stands on.

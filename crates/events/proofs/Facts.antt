@@ -36,7 +36,7 @@ rises-far l h (suc d) i k =
     let c : getD l (i + suc d) 0 < getD l (i + suc (suc d)) 0 = rw (← e) b in
     omega arith
 
-rises-lt : (l : List ℕ) → Rises l → (i j : ℕ) → i < j → j < length l → getD l i 0 < getD l j 0
+pub rises-lt : (l : List ℕ) → Rises l → (i j : ℕ) → i < j → j < length l → getD l i 0 < getD l j 0
 rises-lt l h i j k b = let e : i + suc (j - (i + 1)) ≡ j = omega arith in rw (← e) (rises-far l h (j - (i + 1)) i (omega arith))
 
 module _ (p : Plan) (R : Readable p) where
@@ -53,7 +53,7 @@ module _ (p : Plan) (R : Readable p) where
   unfolding routeOf
   route-read r h = all-at (ReadableRoute (p .tracks) (length (p .signals))) (p .routes) r noRoute (R .routes .each) h
 
-  entry-read : (e : ℕ) → e < length (p .entries) → ReadableEntry (length (p .tracks)) (entryOf p e)
+  pub entry-read : (e : ℕ) → e < length (p .entries) → ReadableEntry (length (p .tracks)) (entryOf p e)
   unfolding entryOf
   entry-read e h = all-at (ReadableEntry (length (p .tracks))) (p .entries) e noEntry (R .entries .each) h
 

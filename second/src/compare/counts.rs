@@ -3,7 +3,9 @@
 use super::calls::{self, Kind, Kinds};
 use super::flaws::{self, FLAWS};
 use super::images;
+use super::rarest::{self, Spread};
 use super::special::{self, SPECIALS};
+use super::walks;
 use crate::book::MODEL;
 use crate::generate::case::Case;
 use crate::generate::faults::PLACES;
@@ -47,6 +49,10 @@ pub struct Counts {
     /// By event kind and answer.
     pub answers: [[u64; ANSWERS]; EVENT_KINDS.len()],
     pub specials: Vec<u64>,
+    /// Where 13, 14 and 42 find what they look for in their lists.
+    pub walks: [u64; walks::KINDS],
+    /// The same by the list's length, and by the number of the route or the entry.
+    pub spread: Spread,
     pub flaws: Vec<u64>,
     /// Pairs of agreeing states by the answer to the request.
     pub pairs: [u64; ANSWERS],
@@ -66,6 +72,8 @@ impl Default for Counts {
             rules: [[0; 2]; 13],
             answers: [[0; ANSWERS]; EVENT_KINDS.len()],
             specials: vec![0; SPECIALS.len()],
+            walks: [0; walks::KINDS],
+            spread: rarest::NONE,
             flaws: vec![0; FLAWS.len()],
             pairs: [0; ANSWERS],
             calls: Kinds::new(),
@@ -179,6 +187,8 @@ impl Counts {
         special::of_answer(plan, before, after, event, answer, |special| {
             specials[special as usize] += 1;
         });
+        walks::of_answer(plan, before, event, answer, &mut self.walks);
+        rarest::of_answer(plan, before, event, answer, &mut self.spread);
     }
 
     fn count_answer(&mut self, event: &[u8], answer: &Answer) {

@@ -4,7 +4,9 @@ use super::calls;
 use super::counts::{Counts, CANCELLED, ENTERED, EVENT_KINDS, GRANTED, LEFT, MOVED};
 use super::flaws::FLAWS;
 use super::images;
+use super::rarest;
 use super::special::SPECIALS;
+use super::walks;
 use crate::generate::faults::{can_occur, PLACES};
 
 /// Fewer than this of anything that can occur is a failure.
@@ -45,6 +47,7 @@ pub fn report(counts: &Counts) -> Vec<String> {
     lines.extend(rule_lines(counts));
     lines.extend(answer_lines(counts));
     lines.extend(named_lines(SPECIALS, &counts.specials));
+    lines.extend(walk_lines(counts));
     lines.extend(named_lines(FLAWS, &counts.flaws));
     lines.extend(pair_lines(counts));
     lines.extend(call_lines(counts));
@@ -131,6 +134,12 @@ fn code_words(code: usize) -> String {
 fn named_lines<'a>(names: &'a [&str], counts: &'a [u64]) -> impl Iterator<Item = Line> + 'a {
     let pairs = names.iter().zip(counts);
     pairs.map(|(name, &count)| Line::needed(name.to_string(), count))
+}
+
+fn walk_lines(counts: &Counts) -> impl Iterator<Item = Line> + '_ {
+    let pairs = walks::names().into_iter().zip(counts.walks);
+    let pairs = pairs.chain(rarest::of_each(&counts.spread));
+    pairs.map(|(name, count)| Line::needed(name, count))
 }
 
 fn pair_lines(counts: &Counts) -> Vec<Line> {

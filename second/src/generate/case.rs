@@ -4,7 +4,7 @@ use super::events::{self, Event};
 use super::images::{self, Writing};
 use super::lists::{self, List};
 use super::pieces::{self, Pieces};
-use super::{accepted, broken, faults, states, wild};
+use super::{accepted, broken, faults, states, walks, wild};
 use crate::model::plan::Plan;
 use crate::model::reading::read;
 use crate::model::rules;
@@ -56,7 +56,8 @@ pub fn case(seed: u64) -> Case {
 fn file(random: &mut Random) -> Vec<u8> {
     match random.below(100) {
         0..=46 => write(&accepted(random)),
-        47..=65 => write(&broken::broken(random)),
+        47..=61 => write(&broken::broken(random)),
+        62..=65 => write(&walks::relisted(random)),
         66..=75 => write(&wild::wild(random)),
         76..=83 => {
             let plan = accepted(random);
@@ -78,7 +79,9 @@ fn with_readable(random: &mut Random, file: Vec<u8>, plan: &Plan) -> Case {
             events::reckless(random, plan, count)
         }
     };
-    let steps = (0..6).map(|_| single_step(random, plan)).collect();
+    let mut steps: Vec<(Arrays, Event)> = (0..5).map(|_| single_step(random, plan)).collect();
+    let walks = (0..walks::count(plan)).filter_map(|_| walks::walk(random, plan));
+    steps.extend(walks.map(|(state, event)| (state.to_arrays(), event)));
     let pairs = pair(random, plan).into_iter().collect();
     let list = lists::list(random, plan, &events);
     let mut pieces = vec![pieces::pieces(random, plan, &events)];

@@ -100,6 +100,51 @@ pub fn granting(random: &mut Random, plan: &Plan, count: usize) -> Vec<u8> {
     events
 }
 
+/// A list of whole events that are mostly requests, with so many trains at most at each event. Where
+/// nothing can move, and no route is had that no train waits for, all events are requests.
+pub fn asking(
+    random: &mut Random,
+    plan: &Plan,
+    count: usize,
+    most_trains: impl Fn(usize) -> usize,
+) -> Vec<u8> {
+    let mut state = State::fresh(plan);
+    let mut events = Vec::with_capacity(3 * count);
+    for number in 0..count {
+        let has_room = occupied(&state).len() < most_trains(number);
+        let chosen = match random.below(100) {
+            0..=29 => on_its_way(random, plan, &state),
+            30..=31 if has_room => enter_wisely(random, plan, &state),
+            32..=47 => give_back(random, plan, &state),
+            48 => cancel(random, plan, &state),
+            49 => nonsense(random, plan, &state),
+            _ => None,
+        };
+        let event = chosen.or_else(|| request(random, plan, &state));
+        let event = event.unwrap_or([1, 0, 0]);
+        step::step(plan, &mut state, &event);
+        events.extend(event);
+    }
+    events
+}
+
+/// Cancels a route for which no train waits.
+fn give_back(random: &mut Random, plan: &Plan, state: &State) -> Option<Event> {
+    let is_empty = |route: &usize| state.trains[plan.home_of(&plan.routes[*route])].is_none();
+    let green = state.signals.iter().copied().flatten();
+    let green: Vec<usize> = green.filter(is_empty).collect();
+    random.pick(&green).map(|route| [2, route as u8, 0])
+}
+
+/// Moves a train that stands at no red signal.
+fn on_its_way(random: &mut Random, plan: &Plan, state: &State) -> Option<Event> {
+    let is_red = |signal: usize| state.signals[signal].is_none();
+    let mut tracks = occupied(state);
+    tracks.retain(|&track| !plan.signal_at(track).is_some_and(is_red));
+    let track = random.pick(&tracks)?;
+    Some([4, state.trains[track]?, 0])
+}
+
 /// A list for a bad plan, in search of accidents.
 pub fn reckless(random: &mut Random, plan: &Plan, count: usize) -> Vec<u8> {
     let manner = if random.chance(80) { RECKLESS } else { FICKLE };

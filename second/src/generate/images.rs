@@ -59,7 +59,7 @@ impl Writing {
     /// Whether it is looked at from outside too, by loading what might be its file: every other
     /// one. A plan's own image comes from a file that was written again.
     pub fn is_checked(&self) -> bool {
-        !self.changes.is_empty() && self.fill.is_multiple_of(2)
+        !self.changes.is_empty() && self.fill % 2 == 0
     }
 }
 

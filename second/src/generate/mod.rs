@@ -16,6 +16,7 @@ mod renumber;
 mod shapes;
 mod sketch;
 pub mod states;
+pub mod walks;
 pub mod wild;
 
 use crate::model::plan::Plan;

@@ -291,10 +291,9 @@ pub const RUN: &[Slip] = &[
         "run answers an incomplete event with 10",
         Wrong::Run(|book, asked, kept| {
             let mut answers = book.any_run(asked, kept);
-            if let (Some(last), false) = (
-                answers.count.checked_sub(1),
-                asked.bytes.len().is_multiple_of(EVENT),
-            ) {
+            if let (Some(last), false) =
+                (answers.count.checked_sub(1), asked.bytes.len() % EVENT == 0)
+            {
                 answers.cells[last] = Some(Answer::Refused(Refusal::NotWellFormed));
             }
             answers

@@ -12,6 +12,7 @@ mod requests;
 mod rules;
 mod states;
 mod unasked;
+mod walks;
 mod writers;
 
 use crate::book::{Book, Call, Loader, Writer, MODEL};
@@ -30,7 +31,7 @@ use programs::InProcess;
 pub const MOST_CASES: usize = 20_000;
 
 /// How many there must be at least, so that none is lost unseen. They may only grow.
-const LEAST_BOXES: usize = 376;
+const LEAST_BOXES: usize = 469;
 const LEAST_PROGRAMS: usize = 50;
 
 /// A wrong function in place of a right one.
@@ -115,7 +116,13 @@ pub fn all() -> Vec<Mutant> {
         unasked::PAST,
         unasked::LAST_BYTE,
     ];
-    groups.concat().into_iter().map(mutant).collect()
+    let slips = groups.concat().into_iter();
+    slips.map(mutant).chain(wrong_walks()).collect()
+}
+
+/// Those of them that walk a list wrongly.
+pub fn wrong_walks() -> Vec<Mutant> {
+    walks::ALL.concat().into_iter().map(mutant).collect()
 }
 
 fn mutant((name, wrong): Slip) -> Mutant {

@@ -124,7 +124,7 @@ fn is_shorter(number: usize) -> bool {
 
 fn cut(random: &mut Random, story: Story, number: usize) -> Session {
     let manner = match number % 9 {
-        0 if number.is_multiple_of(2) => Manner::Answered,
+        0 if number % 2 == 0 => Manner::Answered,
         1..=4 => Manner::LockStep,
         _ => Manner::Freely,
     };

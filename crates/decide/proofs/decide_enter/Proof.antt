@@ -18,6 +18,7 @@ use Rattle.state.specs.State.{noTrain}
 use Rattle.state.specs.Cells.{trainsIn}
 use Rattle.events.specs.Decide.{busyTrack, frontOf, inPlan, answerEnter, decided}
 use Rattle.events.proofs.Facts.{entry-below}
+use Rattle.decide.proofs.Along.{entry-rising}
 use borrow.Author.Needs.{needs}
 use Rattle.decide.proofs.decide_enter.Statement.{statement}
 use Rattle.decide.proofs.decide_enter.Tie as tie
@@ -138,7 +139,10 @@ entry-clear-requires : tie.Need-entry-clear-requires
 entry-clear-requires c κs = search needs
 
 busy-track-requires : tie.Need-busy-track-requires
-busy-track-requires c κs = few (counted (told-17 (c .before)))
+busy-track-requires c κs =
+    let n = counted (told-17 (c .before)) in
+    let e = past-11 n .before in
+    (few n, rw (n .tracks .ensures, c .entry-clear .ensures) (entry-rising (start e .pre) (ltb-true _ _ (there e))))
 
 enum-known-busy : tie.Need-enum-known-busy
 enum-known-busy c = search needs

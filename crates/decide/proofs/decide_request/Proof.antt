@@ -18,6 +18,8 @@ use Rattle.state.specs.State.{red}
 use Rattle.state.specs.Cells.{stateIn}
 use Rattle.events.specs.Decide.{isRed, busyTrack, heldPoint, derailedPoint, answerRequest, decided}
 use Rattle.events.proofs.Facts.{start-below}
+use Rattle.decide.specs.Along.{RisingTracks}
+use Rattle.decide.proofs.Along.{clear-rising, normal-rising, reverse-rising}
 use borrow.Author.Needs.{needs}
 use Rattle.decide.proofs.decide_request.Statement.{statement}
 use Rattle.decide.proofs.decide_request.Tie as tie
@@ -132,6 +134,20 @@ derailed c =
     let n = counted (told-13 (past-13 h)) in
     rw (← n .tracks .ensures, ← h .before .before .normal-of .ensures, ← h .before .reverse-of .ensures, ← c .derailed-point .ensures)
 
+-- The lists that are walked rise.
+clear : (c : tie.After-clear-of) → RisingTracks (c .before .tracks .result) (now (c .clear-of .result))
+clear c =
+    let n = c .before in
+    let e = past-11 (told-12 (past-12 n)) in
+    rw (n .tracks .ensures, c .clear-of .ensures) (clear-rising (start e .pre) (ltb-true _ _ (there e)))
+
+points : (c : tie.After-reverse-of) → let n = counted (told-13 (c .before .before)) .tracks .result in RisingTracks n (now (c .before .normal-of .result)) × RisingTracks n (now (c .reverse-of .result))
+points c =
+    let n = counted (told-13 (c .before .before)) in
+    let e = past-11 (told-12 (past-12 n)) in
+    let route = ltb-true _ _ (there e) in
+    (rw (n .tracks .ensures, c .before .normal-of .ensures) (normal-rising (start e .pre) route), rw (n .tracks .ensures, c .reverse-of .ensures) (reverse-rising (start e .pre) route))
+
 routes-requires : tie.Need-routes-requires
 routes-requires c κs = search needs
 
@@ -158,7 +174,7 @@ clear-of-requires : tie.Need-clear-of-requires
 clear-of-requires c κs = search needs
 
 busy-track-requires : tie.Need-busy-track-requires
-busy-track-requires c κs = few (c .before)
+busy-track-requires c κs = (few (c .before), clear c)
 
 enum-known-busy : tie.Need-enum-known-busy
 enum-known-busy c = search needs
@@ -180,7 +196,7 @@ reverse-of-requires : tie.Need-reverse-of-requires
 reverse-of-requires c κs = search needs
 
 held-point-requires : tie.Need-held-point-requires
-held-point-requires c κs = few (counted (told-13 (c .before .before)))
+held-point-requires c κs = let (normal, reverse) = points c in (few (counted (told-13 (c .before .before))), normal, reverse)
 
 enum-known-held : tie.Need-enum-known-held
 enum-known-held c = search needs
@@ -196,7 +212,7 @@ enum-told-2 : tie.Need-enum-told-2
 enum-told-2 c = search needs
 
 derailed-point-requires : tie.Need-derailed-point-requires
-derailed-point-requires c κs = few (counted (told-13 (past-13 (told-14 c))))
+derailed-point-requires c κs = let (normal, reverse) = points (told-14 c .before) in (few (counted (told-13 (past-13 (told-14 c)))), normal, reverse)
 
 enum-known-derailed : tie.Need-enum-known-derailed
 enum-known-derailed c = search needs

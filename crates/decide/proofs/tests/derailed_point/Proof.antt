@@ -1,52 +1,27 @@
--- `tests::derailed_point`: what is found from the place on is what is found from the start.
-use Prim.Native.Nat.{_-_}
-use mathlib.Core.Path.{_≡_, sym, _∙_}
-use Rattle.laws.specs.Search.{lowest, lowestFrom, lowest-start, lowest-hit, lowest-miss, lowest-end}
-use Rattle.state.specs.Cells.{trainsIn, liesIn}
-use Rattle.events.specs.Decide.{derails, derailedPoint}
+-- `tests::derailed_point`: the lower of the first of each list.
+use mathlib.Core.Path.{sym, _∙_}
+use Rattle.decide.proofs.Along.{within, lower-both, derailed-first}
 use borrow.Author.Needs.{needs}
 use Rattle.decide.proofs.tests.derailed_point.Statement.{statement}
 use Rattle.decide.proofs.tests.derailed_point.Tie as tie
 
-abbrev Inv-loop : tie.InvT-loop
-Inv-loop count normal reverse cells point₀ point = lowestFrom (derails normal reverse (trainsIn cells) (liesIn cells)) (count - point) point ≡ lowest count (derails normal reverse (trainsIn cells) (liesIn cells))
+returns : tie.Need-returns
+returns c =
+    let s = c .before .before .before .before .before in
+    c .lower .ensures ∙ lower-both (c .before .before .derailed-in .ensures) (c .before .derailed-in2 .ensures) ∙ sym (derailed-first _ _ _ (s .pre .1) (s .pre .2) _ _)
 
-abbrev μ-loop : tie.MeasureT-loop
-μ-loop count normal reverse cells point₀ point = count - point
+derailed-in-requires : tie.Need-derailed-in-requires
+derailed-in-requires c κs =
+    let s = c .before .before in
+    within _ (s .pre .0) (s .pre .1)
 
-loop-holds : tie.Need-loop-holds Inv-loop μ-loop
-loop-holds c = lowest-start _ _
+derailed-in-requires-2 : tie.Need-derailed-in-requires-2
+derailed-in-requires-2 c κs =
+    let s = c .before .before .before in
+    within _ (s .pre .0) (s .pre .2)
 
-derails-requires : tie.Need-derails-requires Inv-loop μ-loop
-derails-requires c κs = search needs
-
-returns : tie.Need-returns Inv-loop μ-loop
-unfolding derailedPoint
-returns c = sym (lowest-hit _ _ _ (c .before .before .loop-test .taken) (sym (c .before .derails .ensures) ∙ c .if1 .taken)) ∙ c .before .before .before .loop .inv
-
-add-point : tie.Need-add-point Inv-loop μ-loop
-add-point c = search needs
-
-loop-less : tie.Need-loop-less Inv-loop μ-loop
-loop-less c = search needs
-
-loop-again : tie.Need-loop-again Inv-loop μ-loop
-loop-again c = sym (lowest-miss _ _ _ (c .before .before .loop-test .taken) (sym (c .before .derails .ensures) ∙ c .if1 .left)) ∙ c .before .before .before .loop .inv
-
-returns-2 : tie.Need-returns-2 Inv-loop μ-loop
-unfolding derailedPoint
-returns-2 c = sym (lowest-end _ _ _ (c .loop-test .left)) ∙ c .before .loop .inv
+lower-requires : tie.Need-lower-requires
+lower-requires c κs = search needs
 
 pub derailed-point-spec : {M : Type 1} → statement M
-derailed-point-spec =
-    tie.close
-    (tie.spec
-    Inv-loop
-    μ-loop
-    loop-holds
-    derails-requires
-    returns
-    add-point
-    loop-less
-    loop-again
-    returns-2)
+derailed-point-spec = tie.close (tie.spec derailed-in-requires derailed-in-requires-2 lower-requires returns)

@@ -1,51 +1,27 @@
--- `tests::held_point`: what is found from the place on is what is found from the start.
-use Prim.Native.Nat.{_-_}
-use mathlib.Core.Path.{_≡_, sym, _∙_}
-use Rattle.laws.specs.Search.{lowest, lowestFrom, lowest-start, lowest-hit, lowest-miss, lowest-end}
-use Rattle.events.specs.Decide.{heldListed, heldPoint}
+-- `tests::held_point`: the lower of the first of each list.
+use mathlib.Core.Path.{sym, _∙_}
+use Rattle.decide.proofs.Along.{within, lower-both, held-first}
 use borrow.Author.Needs.{needs}
 use Rattle.decide.proofs.tests.held_point.Statement.{statement}
 use Rattle.decide.proofs.tests.held_point.Tie as tie
 
-abbrev Inv-loop : tie.InvT-loop
-Inv-loop count normal reverse holds point₀ point = lowestFrom (heldListed normal reverse holds) (count - point) point ≡ lowest count (heldListed normal reverse holds)
+returns : tie.Need-returns
+returns c =
+    let s = c .before .before .before .before .before in
+    c .lower .ensures ∙ lower-both (c .before .before .held-in .ensures) (c .before .held-in2 .ensures) ∙ sym (held-first _ _ _ (s .pre .1) (s .pre .2) _)
 
-abbrev μ-loop : tie.MeasureT-loop
-μ-loop count normal reverse holds point₀ point = count - point
+held-in-requires : tie.Need-held-in-requires
+held-in-requires c κs =
+    let s = c .before .before in
+    within _ (s .pre .0) (s .pre .1)
 
-loop-holds : tie.Need-loop-holds Inv-loop μ-loop
-loop-holds c = lowest-start _ _
+held-in-requires-2 : tie.Need-held-in-requires-2
+held-in-requires-2 c κs =
+    let s = c .before .before .before in
+    within _ (s .pre .0) (s .pre .2)
 
-held-listed-requires : tie.Need-held-listed-requires Inv-loop μ-loop
-held-listed-requires c κs = search needs
-
-returns : tie.Need-returns Inv-loop μ-loop
-unfolding heldPoint
-returns c = sym (lowest-hit _ _ _ (c .before .before .loop-test .taken) (sym (c .before .held-listed .ensures) ∙ c .if1 .taken)) ∙ c .before .before .before .loop .inv
-
-add-point : tie.Need-add-point Inv-loop μ-loop
-add-point c = search needs
-
-loop-less : tie.Need-loop-less Inv-loop μ-loop
-loop-less c = search needs
-
-loop-again : tie.Need-loop-again Inv-loop μ-loop
-loop-again c = sym (lowest-miss _ _ _ (c .before .before .loop-test .taken) (sym (c .before .held-listed .ensures) ∙ c .if1 .left)) ∙ c .before .before .before .loop .inv
-
-returns-2 : tie.Need-returns-2 Inv-loop μ-loop
-unfolding heldPoint
-returns-2 c = sym (lowest-end _ _ _ (c .loop-test .left)) ∙ c .before .loop .inv
+lower-requires : tie.Need-lower-requires
+lower-requires c κs = search needs
 
 pub held-point-spec : {M : Type 1} → statement M
-held-point-spec =
-    tie.close
-    (tie.spec
-    Inv-loop
-    μ-loop
-    loop-holds
-    held-listed-requires
-    returns
-    add-point
-    loop-less
-    loop-again
-    returns-2)
+held-point-spec = tie.close (tie.spec held-in-requires held-in-requires-2 lower-requires returns)
