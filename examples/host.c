@@ -49,7 +49,7 @@ static const wording WORDINGS[] = {
     {SIGNALBOX_REFUSED_ILL_FORMED, 0, {"refused 10", "", ""}},
     {SIGNALBOX_REFUSED_BAD_EVENT, 0, {"refused 11", "", ""}},
     {SIGNALBOX_REFUSED_NOT_RED, 0, {"refused 12", "", ""}},
-    {SIGNALBOX_REFUSED_OCCUPIED, 1, {"refused 13 track ", "", ""}},
+    {SIGNALBOX_REFUSED_OCCUPIED, 2, {"refused 13 track ", " train ", ""}},
     {SIGNALBOX_REFUSED_HELD, 1, {"refused 14 point ", "", ""}},
     {SIGNALBOX_REFUSED_NOT_GREEN, 0, {"refused 15", "", ""}},
     {SIGNALBOX_REFUSED_HOME_OCCUPIED, 1, {"refused 16 track ", "", ""}},

@@ -166,7 +166,7 @@ typedef struct signalbox_state {
  * row. Above SIGNALBOX_WRITTEN stands the length of the file, 16 bits wide.
  *
  *     0x03020167 is "moved 1 from 2 to 3"
- *     0x020d is "refused 13 track 2"
+ *     0x01020d is "refused 13 track 2 train 1"
  *     0x0c03 is "form 3 at 12"
  *     0x01d0 is "rule 8 row 1"
  *
@@ -213,8 +213,8 @@ typedef struct signalbox_state {
 #define SIGNALBOX_REFUSED_BAD_EVENT 11     /* refused 11: an incomplete event, an unknown kind, an unused byte that is
                                               not 0, no such route or entry, or train number 0 */
 #define SIGNALBOX_REFUSED_NOT_RED 12       /* refused 12: request, the start signal is not red */
-#define SIGNALBOX_REFUSED_OCCUPIED 13      /* refused 13 track <track>: request or entry, a track of the clear list has
-                                              a train; the lowest such track */
+#define SIGNALBOX_REFUSED_OCCUPIED 13      /* refused 13 track <track> train <train>: request or entry, a track of the
+                                              clear list has a train; the lowest such track, and the train on it */
 #define SIGNALBOX_REFUSED_HELD 14          /* refused 14 point <point>: request, a listed point is held by any route;
                                               the lowest such point */
 #define SIGNALBOX_REFUSED_NOT_GREEN 15     /* refused 15: cancel, the start signal is not green for this route */
@@ -271,7 +271,7 @@ typedef struct signalbox_outcome {
  * one too; of the others in bytes, SIGNALBOX_LINE for each line, however short it is. waiting is unfinished[0] before
  * the call; SIGNALBOX_EVENT - 1, its most, gives what is enough for any. signalbox_finish needs none where nothing is
  * unfinished. The macros take lengths of type size_t and give the same type. */
-#define SIGNALBOX_LINE 77
+#define SIGNALBOX_LINE 83
 #define SIGNALBOX_RUN_ROOM(events_length) \
     ((events_length) / SIGNALBOX_EVENT + ((events_length) % SIGNALBOX_EVENT + SIGNALBOX_EVENT - 1) / SIGNALBOX_EVENT)
 #define SIGNALBOX_OPEN_ROOM SIGNALBOX_LINE

@@ -502,14 +502,15 @@ fn form(code: u64) -> Option<Form> {
 }
 
 /// A code that is no answer's becomes a form of its number, which no plan has: a mismatch, not a panic.
-fn answer(code: u64) -> Answer {
+pub fn answer(code: u64) -> Answer {
     let (train, first) = (byte(code, 1), byte(code, 1) as usize);
+    let in_the_way = (first, byte(code, 2));
     let (second, third) = (byte(code, 2) as usize, byte(code, 3) as usize);
     let (values, answer) = match byte(code, 0) {
         10 => (0, Answer::Refused(Refusal::NotWellFormed)),
         11 => (0, Answer::Refused(Refusal::BadEvent)),
         12 => (0, Answer::Refused(Refusal::SignalNotRed)),
-        13 => (1, Answer::Refused(Refusal::TrainInTheWay { track: first })),
+        13 => (2, Answer::in_the_way(in_the_way)),
         14 => (1, Answer::Refused(Refusal::PointHeld { point: first })),
         15 => (0, Answer::Refused(Refusal::SignalNotGreen)),
         16 => (1, Answer::Refused(Refusal::TrainAtHome { track: first })),

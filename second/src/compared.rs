@@ -20,6 +20,11 @@ pub const CASES: Compared = Compared {
     alone: "compared: the model with itself",
 };
 
+pub const EARLIER: Compared = Compared {
+    with_box: "compared: the box with an earlier one, the train of 13 dropped",
+    alone: "compared: the model with an earlier box, the train of 13 dropped",
+};
+
 pub const FOLDERS: Compared = Compared {
     with_box: "compared: the model and the box with the session folders",
     alone: "compared: the model alone with the session folders",

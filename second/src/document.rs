@@ -211,7 +211,7 @@ fn running_slips() -> Vec<Session> {
         session(
             "slip-train-at-home",
             "With route 0 granted and train 1 on track 0 the route can be neither asked for again \
-             nor cancelled; with the train on point 2, route 1 is refused for track 2.",
+             nor cancelled; with the train on point 2, route 1 is refused for track 2 and train 1.",
             BENCH_PLAN.to_vec(),
             &[
                 [3, 0, 1],
@@ -222,7 +222,7 @@ fn running_slips() -> Vec<Session> {
                 [1, 1, 0],
             ],
             "accepted\nentered 1 track 0\ngranted 0\nrefused 12\nrefused 16 track 0\n\
-             moved 1 from 0 to 2\nrefused 13 track 2\n",
+             moved 1 from 0 to 2\nrefused 13 track 2 train 1\n",
         ),
         session(
             "slip-cancel-route-1",

@@ -42,7 +42,7 @@ fn both_ways_and_both_legs() -> Session {
         &[
             ([3, 0, 1], "entered 1 track 1"),
             ([3, 0, 1], "refused 17"),
-            ([3, 0, 2], "refused 13 track 1"),
+            ([3, 0, 2], "refused 13 track 1 train 1"),
             ([4, 1, 0], "refused 19 signal 0"),
             ([1, 1, 0], "granted 1"),
             ([2, 1, 0], "refused 16 track 1"),
@@ -57,9 +57,9 @@ fn both_ways_and_both_legs() -> Session {
             ([4, 2, 0], "refused 19 signal 1"),
             ([1, 2, 0], "refused 14 point 5"),
             ([4, 1, 0], "moved 1 from 4 to 5"),
-            ([1, 2, 0], "refused 13 track 5"),
+            ([1, 2, 0], "refused 13 track 5 train 1"),
             ([4, 1, 0], "moved 1 from 5 to 0"),
-            ([1, 2, 0], "refused 13 track 0"),
+            ([1, 2, 0], "refused 13 track 0 train 1"),
             ([4, 1, 0], "left 1 from 0"),
             ([1, 2, 0], "granted 2"),
             ([4, 2, 0], "moved 2 from 3 to 5"),
@@ -81,9 +81,10 @@ fn lowest_is_named() -> Session {
     session(
         "lowest-is-named",
         "Two lines, each with a facing point, 1 and 5, and a plan that is bad so that 42 can come. \
-         Wherever both tracks or points are in the way, the lower one is named: two trains (13, \
-         for a request and for an entry), two points that would turn under a train (42), two held \
-         points (14). 14 comes before 42, and a route's own hold counts too.",
+         Wherever both tracks or points are in the way, the lower one is named: of two tracks \
+         with a train the lower track, with the train on it, whatever its number (13, for a \
+         request and for an entry); of two points that would turn under a train (42), or are held \
+         (14), the lower point. 14 comes before 42, and a route's own hold counts too.",
         &[
             &[8, 0, 1, 0, 0, 1, 2, 3, 0, 3, 0, 0, 0, 3, 0, 0, 0],
             &[0, 5, 0, 0, 1, 6, 7, 0, 3, 0, 0, 0, 3, 0, 0, 0],
@@ -103,8 +104,8 @@ fn lowest_is_named() -> Session {
             ([1, 1, 0], "granted 1"),
             ([4, 1, 0], "moved 1 from 0 to 1"),
             ([4, 2, 0], "moved 2 from 4 to 5"),
-            ([1, 2, 0], "refused 13 track 1"),
-            ([3, 0, 3], "refused 13 track 1"),
+            ([1, 2, 0], "refused 13 track 1 train 1"),
+            ([3, 0, 3], "refused 13 track 1 train 1"),
             ([1, 3, 0], "accident 42 point 1"),
             ([4, 1, 0], "moved 1 from 1 to 2"),
             ([4, 2, 0], "moved 2 from 5 to 6"),

@@ -1,6 +1,6 @@
-//! An independent second program for the junction box. The model follows document 01 and, for the
-//! plan in memory, No. 1 of document 02 alone; its readings of them are listed in `README.md`, shown
-//! at the top of `main.rs`.
+//! An independent second program for the junction box. The model follows document 01 and of document 02
+//! No. 1, for the plan in memory, and No. 3, for the train that 13 names, alone; its readings of them are
+//! listed in `README.md`, shown at the top of `main.rs`.
 
 pub mod accepted;
 pub mod bench;
@@ -10,6 +10,7 @@ pub mod compare;
 pub mod compared;
 pub mod definitions;
 pub mod document;
+pub mod earlier;
 pub mod forms;
 pub mod generate;
 pub mod junctions;
@@ -27,6 +28,7 @@ pub mod sessions;
 pub mod singles;
 pub mod subject;
 pub mod told;
+pub mod trains;
 pub mod walks;
 pub mod words;
 pub mod writing;

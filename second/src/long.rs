@@ -177,10 +177,10 @@ fn train_in_the_loop() -> Session {
         "A line parts at point 1 into track 2 and the loop, track 3, which come together at point \
          4 before the exit 5. Events 1 to 4 bring train 1 into the loop, where it waits while 700 \
          trains overtake it on track 2. The last events, 5605 to 5608 (lines 5606 to 5609), find \
-         it there: route 1 is refused for track 3, train 1 is at red, gets its route and moves \
-         from 3 to 4. The input ends with two bytes of one more event, 4 1, which are incomplete: \
-         the last line is `refused 11`, and with a third byte, 0, train 1 would have moved on. \
-         Without events 1 to 4, line 5606 would be `granted 1`.",
+         it there: route 1 is refused for track 3 and train 1, which is at red, gets its route \
+         and moves from 3 to 4. The input ends with two bytes of one more event, 4 1, which are \
+         incomplete: the last line is `refused 11`, and with a third byte, 0, train 1 would have \
+         moved on. Without events 1 to 4, line 5606 would be `granted 1`.",
         &[
             &[
                 6, 0, 1, 0, 0, 1, 2, 3, 0, 0, 4, 0, 0, 0, 4, 0, 0, 2, 5, 2, 3, 3, 0, 0, 0,
@@ -202,7 +202,7 @@ fn train_in_the_loop() -> Session {
             ],
             rounds(700, round),
             vec![
-                said([1, 1, 0], "refused 13 track 3"),
+                said([1, 1, 0], "refused 13 track 3 train 1"),
                 said([4, 1, 0], "refused 19 signal 2"),
                 said([1, 3, 0], "granted 3"),
                 said([4, 1, 0], "moved 1 from 3 to 4"),

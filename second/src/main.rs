@@ -4,12 +4,12 @@ use second::bench::{self, Boxes};
 use second::book::MODEL;
 use second::boxed::Boxed;
 use second::compare::driver::{self, Search};
-use second::compared::{of_seed, CASES, FOLDERS, IS_LINKED, TIMES};
+use second::compared::{of_seed, CASES, EARLIER, FOLDERS, IS_LINKED, TIMES};
 use second::definitions::folders;
 use second::program::child::Executable;
 use second::subject::{Kept, Lent, Subject, EVENT, LINE};
 use second::words::{self, Command, USAGE};
-use second::{definitions, limits, mutants, program, sessions, singles};
+use second::{definitions, earlier, limits, mutants, program, sessions, singles};
 use std::io::{self, Read, Write};
 use std::panic::{self, PanicHookInfo};
 use std::path::Path;
@@ -87,6 +87,7 @@ fn carry_out(command: Command) -> Result<bool, String> {
         Command::List(directory) => print_list(directory)?,
         Command::Steps => print!("{}", singles::told()),
         Command::Bench(library) => bench(library)?,
+        Command::Earlier(library, seed) => return compare_earlier(library, seed),
         Command::Limits => {
             for (name, size) in limits::all() {
                 println!("{name} {size}");
@@ -145,6 +146,20 @@ fn bench(library: Option<&Path>) -> Result<(), String> {
     });
     TIMES.end("done");
     Ok(())
+}
+
+/// The earlier box is opened before anything else too.
+fn compare_earlier(library: &Path, seed: u64) -> Result<bool, String> {
+    let other = Boxed::open(library)?;
+    EARLIER.begin();
+    println!("the earlier box: {}", library.display());
+    let search = Search {
+        seed,
+        ..Search::default()
+    };
+    let is_good = earlier::compare(subject(), &other, &search);
+    EARLIER.end(&of_seed(seed, is_good));
+    Ok(is_good)
 }
 
 fn print_list(directory: &Path) -> Result<(), String> {

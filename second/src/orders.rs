@@ -36,7 +36,7 @@ fn requests_and_cancels() -> Session {
             ([1, 1, 0], "accident 42 point 1"),
             // 11, 13 and 42, then 13 and 42:
             ([1, 2, 7], "refused 11"),
-            ([1, 2, 0], "refused 13 track 1"),
+            ([1, 2, 0], "refused 13 track 1 train 1"),
             ([1, 3, 0], "granted 3"),
             // Now the signal is green for route 3. 11 and 12; 12 and 42; 12, 13 and 42:
             ([1, 3, 7], "refused 11"),
@@ -62,7 +62,7 @@ fn requests_and_cancels() -> Session {
             ([1, 1, 7], "refused 11"),
             ([1, 1, 0], "refused 14 point 1"),
             // 13, 14 and 42:
-            ([1, 2, 0], "refused 13 track 1"),
+            ([1, 2, 0], "refused 13 track 1 train 3"),
             ([1, 3, 0], "granted 3"),
             // 12 and 14:
             ([1, 0, 0], "refused 12"),
@@ -95,7 +95,7 @@ fn entries_and_moves() -> Session {
             ([3, 0, 0], "refused 11"),
             ([3, 1, 0], "refused 11"),
             // 13 and 40:
-            ([3, 0, 3], "refused 13 track 0"),
+            ([3, 0, 3], "refused 13 track 0 train 1"),
             ([3, 1, 3], "accident 40 track 1"),
             // 11 and 18:
             ([4, 3, 7], "refused 11"),

@@ -212,7 +212,7 @@ fn paths() -> Vec<Session> {
                 ([3, 0, 1], "entered 1 track 0"),
                 ([1, 0, 0], "granted 0"),
                 ([4, 1, 0], "moved 1 from 0 to 1"),
-                ([1, 0, 0], "refused 13 track 1"),
+                ([1, 0, 0], "refused 13 track 1 train 1"),
                 ([4, 1, 0], "moved 1 from 1 to 2"),
                 ([3, 0, 2], "entered 2 track 0"),
                 ([1, 0, 0], "granted 0"),

@@ -267,7 +267,7 @@ fn every_refusal() -> Session {
             ([3, 1, 1], "refused 17"),
             ([3, 1, 2], "entered 2 track 1"),
             // Train 3 is still outside; then train 1 still at red, and signal 0 not green.
-            ([3, 1, 3], "refused 13 track 1"),
+            ([3, 1, 3], "refused 13 track 1 train 2"),
             ([4, 3, 0], "refused 18"),
             ([4, 1, 0], "refused 19 signal 0"),
             ([2, 0, 0], "refused 15"),
@@ -278,7 +278,7 @@ fn every_refusal() -> Session {
             ([1, 1, 0], "refused 14 point 2"),
             ([4, 1, 0], "moved 1 from 0 to 2"),
             // Signal 1 is still red, and train 1 goes on from where it was.
-            ([1, 1, 0], "refused 13 track 2"),
+            ([1, 1, 0], "refused 13 track 2 train 1"),
             ([4, 2, 0], "refused 19 signal 1"),
             ([4, 1, 0], "moved 1 from 2 to 3"),
             ([4, 1, 0], "left 1 from 3"),

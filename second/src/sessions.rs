@@ -13,6 +13,7 @@ use crate::parts;
 use crate::random::Random;
 use crate::rows;
 use crate::told::told;
+use crate::trains;
 use crate::walks;
 use crate::writing::write;
 use std::fs;
@@ -20,8 +21,8 @@ use std::io;
 use std::path::Path;
 
 /// Every session: those of the document, the odd ends of files and event lists, the last rows and
-/// the parts of the rules, the files with one bad byte, the small junctions, the walks over lists,
-/// what is allowed and the long ones.
+/// the parts of the rules, the files with one bad byte, the small junctions, the walks over lists, the
+/// trains in the way, what is allowed and the long ones.
 pub fn all() -> Vec<Session> {
     let mut sessions = document::sessions();
     sessions.extend(odd_plans());
@@ -33,6 +34,7 @@ pub fn all() -> Vec<Session> {
     sessions.extend(junctions::sessions());
     sessions.extend(orders::sessions());
     sessions.extend(walks::sessions());
+    sessions.extend(trains::sessions());
     sessions.extend(accepted::sessions());
     sessions.extend(long::sessions());
     sessions

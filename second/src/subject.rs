@@ -7,8 +7,9 @@ use crate::model::reading::Form;
 use crate::model::state::Arrays;
 use std::fmt;
 
-/// The room that is counted for a line, however short it is.
-pub const LINE: usize = 77;
+/// The room that is counted for a line, however short it is. The longest by its words, with numbers of
+/// up to 20 digits, is that of 13: `refused `, ` track ` and ` train `, a number after each, and its end.
+pub const LINE: usize = 83;
 
 /// Cells past the lent ones that are looked at too.
 pub const PAST: usize = 3;
@@ -114,6 +115,14 @@ impl<T: Copy> Lent<T> {
     /// What was written, as far as it was.
     pub fn written(&self) -> impl Iterator<Item = T> + '_ {
         self.cells.iter().take(self.count).copied().flatten()
+    }
+}
+
+impl Lent<u8> {
+    /// All that it says was written, with a mark where nothing was that no line has.
+    pub fn bytes(&self) -> Vec<u8> {
+        let cells = &self.cells[..self.count.min(self.cells.len())];
+        cells.iter().map(|cell| cell.unwrap_or(b'?')).collect()
     }
 }
 

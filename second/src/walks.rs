@@ -45,16 +45,16 @@ fn walked_list() -> Session {
          lists: 13 never refuses them, and an entry onto a train is then an accident (event 3). \
          Route 1 and entry 0 ask for all nine tracks, route 2 and entry 1 for tracks 2, 5 and 8, \
          of which none has the number of its place. 13 names the lowest of the list that has a \
-         train, at the first place, the last or between them; a lower track that has a train and \
-         is not listed does not matter. Route 3 lists the points 2, 3 and 6 normal and 4 and 5 \
-         reverse; routes 4 to 11, from the other home, hold one of them or two, and list them the \
-         other way, so that from event 67 to 97 points 2, 3 and 6 lie reverse and 4 and 5 normal. \
-         14, and then 42, name the lowest point that is held, or would turn under a train, of \
-         both lists together: the first of a list, the last or one between them, the lower one in \
-         normal or in reverse. Route 0 lists no point, so that none is in its way, and route 13 \
-         lists point 6 alone. Route 12 lists point 2 both ways, and reverse wins: with a train on \
-         point 2 it is granted while the point lies reverse (event 70) and is accident 42 while \
-         it lies normal (event 101).",
+         train, and that train, at the first place, the last or between them; a lower track that \
+         has a train and is not listed does not matter. Route 3 lists the points 2, 3 and 6 \
+         normal and 4 and 5 reverse; routes 4 to 11, from the other home, hold one of them or \
+         two, and list them the other way, so that from event 67 to 97 points 2, 3 and 6 lie \
+         reverse and 4 and 5 normal. 14, and then 42, name the lowest point that is held, or \
+         would turn under a train, of both lists together: the first of a list, the last or one \
+         between them, the lower one in normal or in reverse. Route 0 lists no point, so that \
+         none is in its way, and route 13 lists point 6 alone. Route 12 lists point 2 both ways, \
+         and reverse wins: with a train on point 2 it is granted while the point lies reverse \
+         (event 70) and is accident 42 while it lies normal (event 101).",
         &FIVE_POINTS,
         "rule 3 row 7",
         &[
@@ -64,40 +64,40 @@ fn walked_list() -> Session {
             ([3, 5, 2], "accident 40 track 5"),
             ([2, 0, 0], "cancelled 0"),
             // Only a point has a train, at the second place of three.
-            ([1, 1, 0], "refused 13 track 5"),
-            ([1, 2, 0], "refused 13 track 5"),
-            ([3, 0, 2], "refused 13 track 5"),
-            ([3, 1, 2], "refused 13 track 5"),
+            ([1, 1, 0], "refused 13 track 5 train 1"),
+            ([1, 2, 0], "refused 13 track 5 train 1"),
+            ([3, 0, 2], "refused 13 track 5 train 1"),
+            ([3, 1, 2], "refused 13 track 5 train 1"),
             // Track 3 is lower and has one too, but not every list has track 3.
             ([3, 3, 2], "entered 2 track 3"),
-            ([1, 1, 0], "refused 13 track 3"),
-            ([1, 2, 0], "refused 13 track 5"),
-            ([3, 0, 3], "refused 13 track 3"),
-            ([3, 1, 3], "refused 13 track 5"),
+            ([1, 1, 0], "refused 13 track 3 train 2"),
+            ([1, 2, 0], "refused 13 track 5 train 1"),
+            ([3, 0, 3], "refused 13 track 3 train 2"),
+            ([3, 1, 3], "refused 13 track 5 train 1"),
             // Two tracks of the list have a train.
             ([3, 8, 3], "entered 3 track 8"),
-            ([1, 2, 0], "refused 13 track 5"),
-            ([3, 1, 4], "refused 13 track 5"),
+            ([1, 2, 0], "refused 13 track 5 train 1"),
+            ([3, 1, 4], "refused 13 track 5 train 1"),
             ([4, 1, 0], "moved 1 from 5 to 7"),
             ([4, 1, 0], "left 1 from 7"),
             // The last place alone, with the train on track 3 before it and without.
-            ([1, 2, 0], "refused 13 track 8"),
-            ([3, 1, 4], "refused 13 track 8"),
+            ([1, 2, 0], "refused 13 track 8 train 3"),
+            ([3, 1, 4], "refused 13 track 8 train 3"),
             ([4, 2, 0], "moved 2 from 3 to 7"),
             ([4, 2, 0], "left 2 from 7"),
-            ([1, 1, 0], "refused 13 track 8"),
-            ([3, 0, 4], "refused 13 track 8"),
+            ([1, 1, 0], "refused 13 track 8 train 3"),
+            ([3, 0, 4], "refused 13 track 8 train 3"),
             ([4, 3, 0], "left 3 from 8"),
             // The first place of three.
             ([3, 2, 1], "entered 1 track 2"),
-            ([1, 2, 0], "refused 13 track 2"),
-            ([3, 1, 2], "refused 13 track 2"),
+            ([1, 2, 0], "refused 13 track 2 train 1"),
+            ([3, 1, 2], "refused 13 track 2 train 1"),
             ([4, 1, 0], "moved 1 from 2 to 7"),
             ([4, 1, 0], "left 1 from 7"),
             // No train at all, and then one on the first of all tracks.
             ([3, 0, 1], "entered 1 track 0"),
-            ([1, 1, 0], "refused 13 track 0"),
-            ([3, 0, 2], "refused 13 track 0"),
+            ([1, 1, 0], "refused 13 track 0 train 1"),
+            ([3, 0, 2], "refused 13 track 0 train 1"),
             ([1, 2, 0], "granted 2"),
             ([4, 1, 0], "moved 1 from 0 to 2"),
             ([4, 1, 0], "moved 1 from 2 to 7"),
@@ -222,8 +222,8 @@ fn long_list() -> Session {
         "rule 3 row 1",
         &[
             ([3, 2, 1], "entered 1 track 63"),
-            ([1, 0, 0], "refused 13 track 63"),
-            ([3, 0, 2], "refused 13 track 63"),
+            ([1, 0, 0], "refused 13 track 63 train 1"),
+            ([3, 0, 2], "refused 13 track 63 train 1"),
             ([1, 2, 0], "accident 42 point 63"),
             ([4, 1, 0], "moved 1 from 63 to 1"),
             ([4, 1, 0], "left 1 from 1"),
@@ -241,8 +241,8 @@ fn long_list() -> Session {
             ([4, 1, 0], "moved 1 from 47 to 2"),
             ([4, 1, 0], "left 1 from 2"),
             ([3, 0, 2], "entered 2 track 0"),
-            ([3, 0, 1], "refused 13 track 0"),
-            ([1, 0, 0], "refused 13 track 0"),
+            ([3, 0, 1], "refused 13 track 0 train 2"),
+            ([1, 0, 0], "refused 13 track 0 train 2"),
             ([1, 1, 0], "granted 1"),
         ],
     )

@@ -12,6 +12,7 @@ pub const USAGE: &str =
        second --list DIR                   print the list of wrong definitions, definitions.txt
        second --steps                      print the text of the single steps, steps.txt
        second --bench [LIBRARY]            print times, those of another box's shared library too
+       second --earlier LIBRARY [--seed N] compare the box with an earlier one, the train of 13 dropped
        second --limits                     print the sizes that it goes by
        second sessions DIR                 write the session folders
        second run                          read plan.bin and events like the program itself
@@ -30,6 +31,8 @@ pub enum Command<'a> {
     Steps,
     /// With the path of a shared library, if another box is to be timed too.
     Bench(Option<&'a Path>),
+    /// With the path of an earlier box's shared library.
+    Earlier(&'a Path, u64),
     Limits,
     Sessions(&'a Path),
     Run,
@@ -53,6 +56,7 @@ pub fn understood<'a>(words: &'a [&'a str]) -> Result<Command<'a>, String> {
         "--list" => Command::List(rest.path(READ_FROM)?),
         "--steps" => Command::Steps,
         "--bench" => Command::Bench(rest.optional_path()),
+        "--earlier" => Command::Earlier(rest.path(EARLIER)?, rest.seed()?),
         "--limits" => Command::Limits,
         "sessions" => Command::Sessions(rest.path("DIR, where the session folders are written")?),
         "run" => Command::Run,
@@ -68,6 +72,7 @@ pub fn understood<'a>(words: &'a [&'a str]) -> Result<Command<'a>, String> {
     Ok(command)
 }
 
+const EARLIER: &str = "LIBRARY, the shared library of an earlier box";
 const READ_FROM: &str = "DIR, where the session folders are, such as ../sessions";
 
 /// Words that are taken one by one.

@@ -3,6 +3,7 @@
 use second::book::{Book, MODEL};
 use second::compare::counts::Counts;
 use second::compare::driver::hunt;
+use second::compare::dropped::{Dropped, Due};
 use second::compare::files;
 use second::compare::history::{check, check_agreement, play};
 use second::compare::minima::report;
@@ -12,10 +13,12 @@ use second::generate::case::case;
 use second::generate::images::Writing;
 use second::model::answer::{Answer, Refusal};
 use second::model::image::{Image, CLEAR_AT, IMAGE_SIZE, PATH_AT, ROUTES_AT};
-use second::model::reading::Form;
+use second::model::reading::{read, Form};
 use second::model::state::Arrays;
+use second::model::step::step;
 use second::mutants;
 use second::subject::{Fenced, Kept, Memory, Prepared, Reason, Subject, EVENT};
+use std::cell::Cell;
 
 const SLIPS: [&str; 3] = [
     "a point is released when the train arrives on it",
@@ -37,7 +40,8 @@ fn outside(book: &Book, seed: u64) -> Result<(), String> {
     let verdict = ready.check();
     let story = play(ready.as_mut(), &case.events);
     let lines = book.run(&case.plan, &case.events);
-    check(&case.plan, &case.events, verdict, &lines, &story)
+    let plan = read(&case.plan).ok();
+    check(plan.as_ref(), &case.events, verdict, &lines, &story)
 }
 
 #[test]
@@ -112,9 +116,12 @@ fn writes_well(book: &Book, seed: u64) -> bool {
     images(seed).iter().all(is_well)
 }
 
+/// What is looked at, and the names of mutants that must show there.
+type Check = (fn(&Book, u64) -> bool, &'static [&'static str]);
+
 #[test]
 fn wrong_loaders_and_writers_are_caught_from_outside_alone() {
-    let checks: [(fn(&Book, u64) -> bool, &[&str]); 2] = [
+    let checks: [Check; 2] = [
         (loads_well, &LOADED_AND_WRITTEN),
         (writes_well, &WRITTEN_AND_LOADED),
     ];
@@ -156,6 +163,92 @@ fn loads_and_writes_are_compared_from_outside_too() {
     }
 }
 
+/// The lines of a whole run and the codes of its events, with the train dropped, against document 01,
+/// without any look at what the model prints.
+fn is_as_before(book: &Book, seed: u64) -> bool {
+    let case = case(seed);
+    let mut dropped = Dropped::new(&case.plan);
+    if dropped.plan().is_none() {
+        return true;
+    }
+    let events = &case.events;
+    let codes = &dropped.codes(&Arrays::fresh(), events);
+    let due = Due { events, codes };
+    let verdict = MODEL.prepare(&case.plan).check();
+    let printed = book.run(&case.plan, events);
+    let lines = dropped.opening(verdict, &printed);
+    let room = events.len().div_ceil(EVENT);
+    let mut ready = book.prepare(&case.plan);
+    let answers = ready.run(&mut Kept::fresh(), events, room);
+    let mut are_due = |lines: &[u8]| dropped.lines(due, lines).is_ok();
+    lines.is_ok_and(&mut are_due) && dropped.answers(due, answers.cells.iter().flatten()).is_ok()
+}
+
+/// Boxes of which something else than the train of 13 is not as document 01 has it.
+const NOT_AS_BEFORE: [&str; 14] = [
+    "a run prints no train in 13",
+    "a run prints the train of 13 before the track",
+    "a run prints the train of 13 with three digits",
+    "a run prints the track of 13 as a point",
+    "a run prints a train in 12",
+    "a run prints a train in 16",
+    "a run prints a train in 40",
+    "a run prints the train of an entry once more",
+    "a run prints another word in a move",
+    "a run prints a train where a rule is broken",
+    "run puts a train into the code of 16",
+    "run says 16 for 13",
+    "13 names the highest track",
+    "13 for an entry walks the entry track alone",
+];
+
+/// Boxes of which nothing else is.
+const AS_BEFORE: [&str; 4] = [
+    "13 for a request names train 1",
+    "13 for an entry names the train that enters",
+    "a run prints the train that it named before in 13",
+    "run drops the train of 13",
+];
+
+#[test]
+fn with_the_train_dropped_all_is_as_before() {
+    assert_eq!((0..300).find(|&seed| !is_as_before(&MODEL, seed)), None);
+    for name in NOT_AS_BEFORE {
+        let book = mutant(name);
+        assert!((0..300).any(|seed| !is_as_before(&book, seed)), "{name}");
+    }
+    for name in AS_BEFORE {
+        let book = mutant(name);
+        assert!((0..300).all(|seed| is_as_before(&book, seed)), "{name}");
+    }
+}
+
+/// A wrong train shows in 13 and nowhere else.
+#[test]
+fn a_wrong_train_is_caught_where_13_is_said() {
+    for mutant in mutants::wrong_trains() {
+        let (_, mismatch) = hunt(&mutant.book, 1, 3000).expect("it is caught");
+        let found = mismatch.trouble.found;
+        assert!(found.contains("refused 13"), "{}: {found}", mutant.name);
+    }
+}
+
+thread_local! {
+    static NAMED_BEFORE: Cell<u8> = const { Cell::new(1) };
+}
+
+#[test]
+fn a_box_that_remembers_the_train_it_named_before_is_caught() {
+    let mut book = MODEL;
+    book.step = |plan, state, event| match step(plan, state, event) {
+        Answer::Refused(Refusal::TrainInTheWay { track, train }) => {
+            Answer::in_the_way((track, NAMED_BEFORE.replace(train)))
+        }
+        answer => answer,
+    };
+    assert!(hunt(&book, 1, 300).is_some());
+}
+
 #[test]
 fn every_mutant_is_caught_within_a_few_thousand_cases() {
     for mutant in mutants::all() {
@@ -177,7 +270,9 @@ fn a_request_that_looks_too_far_is_caught_by_agreement() {
     let mut far_sighted = MODEL;
     // Refuses if a train is anywhere at all.
     far_sighted.step = |plan, state, event| match state.trains.iter().position(Option::is_some) {
-        Some(track) if event[0] == 1 => Answer::Refused(Refusal::TrainInTheWay { track }),
+        Some(track) if event[0] == 1 => {
+            Answer::in_the_way((track, state.trains[track].unwrap_or(0)))
+        }
         _ => second::model::step::step(plan, state, event),
     };
     let disagrees = |book: &Book, seed: u64| {
@@ -322,6 +417,7 @@ fn the_rarest_length_and_the_rarest_number_must_be_reached_too() {
     assert!(too_rare(&counts).is_empty());
     let ends = [(1, 64), (1, 64), (1, 16), (1, 16), (1, 16), (1, 16)];
     let ends = ends.into_iter().chain([(0, 47), (0, 15), (0, 47), (0, 47)]);
+    let ends = ends.chain([(1, 255), (1, 255), (0, 63), (0, 63)]);
     for (family, (first, last)) in ends.enumerate() {
         for member in [first, last] {
             counts.spread[family][member] = 99;

@@ -1,6 +1,7 @@
 //! The calls of the box's face that do all or nothing, by hand: readings 27 to 34.
 
 use second::book::MODEL;
+use second::boxed::answer;
 use second::document::BENCH_PLAN;
 use second::generate::case::case;
 use second::generate::pieces::memory;
@@ -172,6 +173,31 @@ fn however_the_input_is_cut_the_lines_are_those_of_the_program() {
         cuts += session.pieces.len();
     }
     assert!(cuts > 1000, "only {cuts} pieces");
+}
+
+/// The train of 13 stands above its track, and nothing above the train.
+#[test]
+fn the_code_of_13_has_a_track_and_a_train() {
+    assert_eq!(answer(0x01_02_0D), Answer::in_the_way((2, 1)));
+    assert_eq!(answer(0xFF_3F_0D), Answer::in_the_way((63, 255)));
+    // As an earlier box has it.
+    assert_eq!(answer(0x02_0D), Answer::in_the_way((2, 0)));
+    for above in [24, 32, 63] {
+        let strange = answer(0x01_02_0D | 1 << above);
+        assert!(matches!(strange, Answer::Unreadable(_)), "{strange}");
+    }
+    for other in [14, 16, 19, 40, 41, 42] {
+        let strange = answer(0x01_02_00 | other);
+        assert!(matches!(strange, Answer::Unreadable(_)), "{strange}");
+    }
+}
+
+/// The longest line, with numbers of 20 digits.
+#[test]
+fn a_line_has_room_for_13_with_the_longest_numbers() {
+    let number = "0".repeat(20);
+    let longest = format!("refused {number} track {number} train {number}\n");
+    assert_eq!(longest.len(), LINE);
 }
 
 #[test]

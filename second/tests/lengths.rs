@@ -78,8 +78,8 @@ fn request(walk: Walk, length: usize, plan: &Plan, state: &mut State, number: us
     }
     if state.signals[route.start].is_some() {
         Answer::Refused(Refusal::SignalNotRed)
-    } else if let Some(track) = state.first_train_on(&clear.clear) {
-        Answer::Refused(Refusal::TrainInTheWay { track })
+    } else if let Some(found) = state.first_train_on(&clear.clear) {
+        Answer::in_the_way(found)
     } else if let Some(point) = lowest_held(state, &held) {
         Answer::Refused(Refusal::PointHeld { point })
     } else if let Some(point) = lowest_derailed(state, &derailed) {

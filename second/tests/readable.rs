@@ -5,7 +5,9 @@ use second::book::MODEL;
 use second::definitions::folders::{self, Folder};
 use second::definitions::{all, held, list, shown, singles, too_strict, Definition, Held};
 use second::document::Session;
-use second::{accepted, forms, junctions, mutants, numbers, orders, parts, sessions, walks};
+use second::{
+    accepted, forms, junctions, mutants, numbers, orders, parts, sessions, trains, walks,
+};
 use std::collections::{BTreeMap, BTreeSet};
 use std::path::{Path, PathBuf};
 
@@ -238,6 +240,32 @@ fn every_wrong_walk_shows_in_the_sessions_made_for_walks() {
     assert_eq!(tried, wrong.len());
 }
 
+/// A wrong train shows in a line of 13, and most of them where the trains are told one by one.
+#[test]
+fn every_wrong_train_shows_in_a_line_of_13() {
+    let made: Vec<&str> = trains::sessions().iter().map(|one| one.name).collect();
+    let folders = in_full();
+    let mut told = in_full();
+    told.retain(|folder| made.contains(&folder.name.as_str()));
+    assert_eq!(told.len(), made.len());
+    let wrong: BTreeSet<&str> = mutants::wrong_trains().iter().map(|one| one.name).collect();
+    assert_eq!(wrong.len(), 111);
+    let mut elsewhere = vec![];
+    for one in all().iter().filter(|one| wrong.contains(one.name.as_str())) {
+        let shown_in = |folders| shown(one, folders).map(|shown| shown.expected);
+        let expected = shown_in(&folders).expect("it shows");
+        assert!(expected.starts_with("`refused 13 track "), "{}", one.name);
+        if shown_in(&told).is_none() {
+            elsewhere.push(one.name.clone());
+        }
+    }
+    // No route of those sessions lists a point.
+    assert_eq!(
+        elsewhere,
+        ["13 for a request names no train where 14 applies too"]
+    );
+}
+
 #[test]
 fn no_small_session_can_be_left_out() {
     let small = [
@@ -246,6 +274,7 @@ fn no_small_session_can_be_left_out() {
         junctions::sessions(),
         orders::sessions(),
         walks::sessions(),
+        trains::sessions(),
         parts::sessions(),
         accepted::sessions(),
     ]

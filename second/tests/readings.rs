@@ -240,7 +240,7 @@ fn an_entry_is_asked_17_then_13_then_40_and_drops_no_hold() {
     assert!(state.holds[2].contains(0));
     let known = Answer::Refused(Refusal::AlreadyInPlan);
     assert_eq!(step(&plan, &mut state, &[3, 0, 7]), known);
-    let in_the_way = Answer::Refused(Refusal::TrainInTheWay { track: 0 });
+    let in_the_way = Answer::in_the_way((0, 7));
     assert_eq!(step(&plan, &mut state, &[3, 0, 8]), in_the_way);
     plan.entries[0].clear.clear();
     let collision = Answer::Accident(Accident::Collision { track: 0 });

@@ -108,6 +108,8 @@ fn a_word_that_is_missing_is_named() {
     refuses(&["--case"], 2, "--case needs a number");
     refuses(&["--program"], 2, "--program needs PATH");
     refuses(&["--program", "--seed", "1"], 2, "--program needs PATH");
+    refuses(&["--earlier"], 2, "--earlier needs LIBRARY");
+    refuses(&["--earlier", "--seed", "1"], 2, "--earlier needs LIBRARY");
     refuses(&["--readable"], 2, "--readable needs DIR");
     refuses(&["--list"], 2, "--list needs DIR");
     refuses(&["sessions"], 2, "sessions needs DIR");
@@ -205,6 +207,7 @@ fn a_library_that_is_no_box_is_met_with_a_sentence() {
     let unopened = |path| format!("the library '{path}' can't be opened: ");
     let missing = unopened("/nowhere.so") + "No such file or directory";
     refuses(&["--bench", "/nowhere.so"], 1, &missing);
+    refuses(&["--earlier", "/nowhere.so"], 1, &missing);
     refuses(&["--bench", "Cargo.toml"], 1, &unopened("Cargo.toml"));
     let folder = unopened("src") + "it is no file";
     refuses(&["--bench", "src"], 1, &folder);

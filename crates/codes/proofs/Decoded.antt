@@ -35,11 +35,13 @@ use Rattle.events.specs.declared.Deed.the-variants.{Granted, Cancelled, Entered
 use Rattle.events.specs.declared.Answer.{Answer}
 use Rattle.events.specs.declared.Answer.the-variants.{Refused, Accident, Done}
 use Rattle.events.specs.Answers.{refusalNumber, refusalValues, harmNumber, harmValues, deedNumber, deedValues, answerNumber, answerValues}
+use Rattle.state.specs.Cells.{stateIn}
+use Rattle.events.specs.Events.{firstEvent}
 use Rattle.events.specs.Decide.{answer}
 use Rattle.codes.specs.Codes.{packed, answerCode, formCode, verdictCode, writtenCode}
 use Rattle.codes.specs.Decoding.{unpacked, Byte, ByteAnswer, ShortForm, ShortFile, Sort, nothing, aForm, tooLittle, noFile, anAnswer, aLength, aVerdict, writtenSort, Tells, Fitting, Apart, Decoding, Decoded}
 use Rattle.codes.proofs.Coded.{verdict-coded}
-use Rattle.codes.proofs.Fits.{first-fits, events-fit, values-fit}
+use Rattle.codes.proofs.Fits.{first-fits, events-fit, trains-fit, values-fit}
 
 -- Packed bytes come back.
 
@@ -68,7 +70,7 @@ same-bytes (a ∷ l) (b ∷ m) v w e (suc i) = same-bytes l m (v .1) (w .1) (ome
 answerOf : ℕ → ℕ → ℕ → ℕ → Answer
 answerOf n x y z =
     firstWith answerNumber (Refused IllFormed)
-    (Refused IllFormed ∷ Refused BadEvent ∷ Refused NotRed ∷ Refused (Occupied x) ∷ Refused (Held x) ∷ Refused NotGreen ∷ Refused (HomeOccupied x)
+    (Refused IllFormed ∷ Refused BadEvent ∷ Refused NotRed ∷ Refused (Occupied x y) ∷ Refused (Held x) ∷ Refused NotGreen ∷ Refused (HomeOccupied x)
     ∷ Refused TrainIn ∷ Refused TrainOut ∷ Refused (Red x) ∷ Accident (Collision x) ∷ Accident (RunThrough x) ∷ Accident (Derailment x)
     ∷ Done (Granted x) ∷ Done (Cancelled x) ∷ Done (Entered x y) ∷ Done (Moved x y z) ∷ Done (Left x y) ∷ [])
     n
@@ -78,7 +80,7 @@ unfolding firstWith answerOf refusalNumber refusalValues harmNumber harmValues d
 answer-back (Refused IllFormed) = refl
 answer-back (Refused BadEvent) = refl
 answer-back (Refused NotRed) = refl
-answer-back (Refused (Occupied track)) = refl
+answer-back (Refused (Occupied track train)) = refl
 answer-back (Refused (Held point)) = refl
 answer-back (Refused NotGreen) = refl
 answer-back (Refused (HomeOccupied track)) = refl
@@ -268,7 +270,7 @@ unfolding refusalNumber harmNumber deedNumber answerNumber
 number-range (Refused IllFormed) = inl (lit≤ tt, lit≤ tt)
 number-range (Refused BadEvent) = inl (lit≤ tt, lit≤ tt)
 number-range (Refused NotRed) = inl (lit≤ tt, lit≤ tt)
-number-range (Refused (Occupied track)) = inl (lit≤ tt, lit≤ tt)
+number-range (Refused (Occupied track train)) = inl (lit≤ tt, lit≤ tt)
 number-range (Refused (Held point)) = inl (lit≤ tt, lit≤ tt)
 number-range (Refused NotGreen) = inl (lit≤ tt, lit≤ tt)
 number-range (Refused (HomeOccupied track)) = inl (lit≤ tt, lit≤ tt)
@@ -298,7 +300,7 @@ unfolding All
 fitting = record {
   first = first-fits;
   events = events-fit;
-  answers = λ p R σ event w. (number-byte (answer p σ event), values-fit p R σ event w);
+  answers = λ p R cells holds b event w. let σ = stateIn cells holds in (number-byte (answer p σ event), values-fit p R σ (trains-fit cells b) event w);
   forms = form-fits;
   files = file-fits;
   rules = verdict-rule;
@@ -339,4 +341,9 @@ decoding = record {
 }
 
 pub decoded : Decoded
-decoded = record { fitting = fitting; apart = apart; decoding = decoding }
+decoded = record {
+  fitting = fitting;
+  apart = apart;
+  decoding = decoding;
+  back = λ p R cells holds bytes b w. decoding .values _ (fitting .answers p R cells holds b (firstEvent bytes) (fitting .first bytes w));
+}

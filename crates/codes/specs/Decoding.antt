@@ -17,7 +17,7 @@ use Rattle.writing.specs.declared.Written.{Written}
 use Rattle.writing.specs.declared.Written.the-variants.{Refused, Whole}
 use Rattle.writing.specs.Writing.{unwrittenNumber, writtenNumber, writtenLength, written}
 use Rattle.rules.specs.Verdict.{verdict, ruleNumber, ruleRow}
-use Rattle.state.specs.declared.State.{State}
+use Rattle.state.specs.Cells.{stateIn}
 use Rattle.events.specs.declared.Event.{Event}
 use Rattle.events.specs.declared.Event.the-variants.{Request, Cancel, Enter, Move, Unknown}
 use Rattle.events.specs.declared.Answer.{Answer}
@@ -83,12 +83,14 @@ writtenSort (Refused NoFile) = noFile
 writtenSort (Refused NoRoom) = tooLittle
 writtenSort (Whole size) = aLength
 
--- What can come fits: of bytes come events of bytes, and of these answers of bytes, on any plan that a file can hold and in any state; no form stands
--- so far on in a file that its offset is cut, and no file is so long that its length is; a rule's number, after the 200, and its row are bytes.
+-- What can come fits: of bytes come events of bytes, and of these answers of bytes, on any plan that a file can hold and in any state that stands in
+-- cells of bytes, whatever the holds; no form stands so far on in a file that its offset is cut, and no file is so long that its length is; a rule's
+-- number, after the 200, and its row are bytes.
 pub record Fitting : Type 0 where
   pub first : (bytes : List ℕ) → All Byte bytes → ByteEvent (firstEvent bytes)
   pub events : (bytes : List ℕ) → All Byte bytes → All ByteEvent (eventsOf bytes)
-  pub answers : (p : Plan) → Readable p → (σ : State) (event : Event) → ByteEvent event → ByteAnswer (answer p σ event)
+  pub answers : (p : Plan) → Readable p → (cells holds : List ℕ) → All Byte cells → (event : Event) → ByteEvent event
+      → ByteAnswer (answer p (stateIn cells holds) event)
   pub forms : (file : List ℕ) (f : Form) → parse file ≡ form f → ShortForm f
   pub files : (image : List ℕ) (room : ℕ) → length image ≡ imageSize → ShortFile (written image room)
   pub rules : (p : Plan) → ruleNumber (verdict p) ≤ 55
@@ -120,3 +122,6 @@ pub record Decoded : Type 0 where
   pub fitting : Fitting
   pub apart : Apart
   pub decoding : Decoding
+  -- so of every answer that can come number and values are read back from its code: of a plan that reads, and of cells and an event that are bytes
+  pub back : (p : Plan) → Readable p → (cells holds bytes : List ℕ) → All Byte cells → All Byte bytes
+      → let a = answer p (stateIn cells holds) (firstEvent bytes) in unpacked (suc (length (answerValues a))) (answerCode a) ≡ answerNumber a ∷ answerValues a

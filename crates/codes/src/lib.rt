@@ -27,7 +27,7 @@ fn pack(number: usize, first: usize, second: usize, third: usize) -> u64
     (low + high * 65536) as u64
 }
 
-// A refusal: what the document names is its value.
+// A refusal: what the document names are its values.
 pub fn refusal_code(refusal: Refusal) -> u64
     ensures { λ r. ⌜ r ≡ answerCode (Refused refusal) ⌝ }
 {
@@ -35,7 +35,7 @@ pub fn refusal_code(refusal: Refusal) -> u64
         Refusal::IllFormed => 10,
         Refusal::BadEvent => 11,
         Refusal::NotRed => 12,
-        Refusal::Occupied(track) => pack(13, track, 0, 0),
+        Refusal::Occupied(track, train) => pack(13, track, wide(train), 0),
         Refusal::Held(point) => pack(14, point, 0, 0),
         Refusal::NotGreen => 15,
         Refusal::HomeOccupied(track) => pack(16, track, 0, 0),

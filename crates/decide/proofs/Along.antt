@@ -1,7 +1,7 @@
 -- Walks along lists: what is left of a list finds what the whole does; on a list that rises the first is the lowest; of two lists the lower of both.
-use mathlib.Core.Path.{_≡_, refl, sym, _∙_}
+use mathlib.Core.Path.{_≡_, refl, sym, ap, _∙_}
 use mathlib.Core.Bool.{Bool, true, false, _&&_, _||_}
-use mathlib.Core.Logic.{inl, inr}
+use mathlib.Core.Logic.{_≢_, inl, inr}
 use mathlib.Core.List.{List, [], _∷_}
 use Prim.Native.Nat.{ℕ, zero, suc, _+_, _<_, _≤_}
 use native.Mathlib.Omega.{arith}
@@ -17,7 +17,9 @@ use Rattle.plan.specs.Records.{Plan, routeOf, entryOf}
 use Rattle.plan.specs.Routes.{listed}
 use Rattle.plan.specs.File.{Rises, Readable}
 use Rattle.plan.proofs.Says.{point-below}
-use Rattle.events.specs.Decide.{hasTrain, busy, busyTrack, heldListed, heldPoint, derails, derailedPoint}
+use Rattle.state.specs.State.{noTrain}
+use Rattle.events.specs.declared.Met.the-variants.{Train, Nobody}
+use Rattle.events.specs.Decide.{hasTrain, busy, withTrain, busyTrain, heldListed, heldPoint, derails, derailedPoint}
 use Rattle.events.proofs.Facts.{rises-lt, route-read, entry-read}
 use Rattle.decide.proofs.Cells.{derails-listed}
 use Rattle.decide.specs.Along.{RisingTracks, firstOf, lower, held}
@@ -39,6 +41,23 @@ module _ {f : ℕ → Bool} {l : List ℕ} {start i : ℕ} (w : Walked f l start
   pub walk-over : length l ≤ i → Nothing ≡ firstOf f (drop start l)
   unfolding firstOf
   walk-over h = sym (walk-end l i (firstOf f) h) ∙ w .left
+
+-- A walk that looks for a train: t is the one on the track x that it has come to.
+pub record Looked (trains l : List ℕ) (start i : ℕ) : Type 0 where
+  pub walked : Walked (hasTrain trains) l start i
+
+module _ {trains l : List ℕ} {start i : ℕ} (w : Looked trains l start i) where
+  module _ {x t : ℕ} (h : i < length l) (e : x ≡ getD l i 0) (d : t ≡ getD trains x noTrain) where
+    pub look-met : t ≢ noTrain → Train x t ≡ withTrain trains (firstOf (hasTrain trains) (drop start l))
+    unfolding hasTrain
+    look-met n = rw d (ap (withTrain trains) (walk-met (w .walked) h e (rw (← d, ne-eqb t noTrain n))))
+
+    pub look-on : t ≡ noTrain → Looked trains l start (i + 1)
+    unfolding hasTrain
+    look-on n = record { walked = walk-on (w .walked) h e (rw (← d, n)) }
+
+  pub look-over : length l ≤ i → Nobody ≡ withTrain trains (firstOf (hasTrain trains) (drop start l))
+  look-over h = ap (withTrain trains) (walk-over (w .walked) h)
 
 -- What a search finds: nothing where no number passes, and the same for two tests that agree.
 none-lowest : (n : ℕ) (f : ℕ → Bool) → ((i : ℕ) → i < n → f i ≡ false) → lowest n f ≡ Nothing
@@ -129,10 +148,10 @@ module _ (n : ℕ) (f g : ℕ → Bool) where
     | inr a ↦ lowest-same n (λ u. f u || g u) g (λ i k. rw (a .1 i k)) ∙ rw (a .0)
   ]
 
--- 13: the lowest busy track is the first of the clear list that has a train.
-pub busy-first : (n : ℕ) (clear trains : List ℕ) → RisingTracks n clear → busyTrack n clear trains ≡ firstOf (hasTrain trains) clear
-unfolding busyTrack busy
-busy-first n clear trains w = rising-first n (hasTrain trains) clear w
+-- 13: the lowest track of the clear list that has a train is the first that has one, and the train is the one on it.
+pub busy-first : (n : ℕ) (clear trains : List ℕ) → RisingTracks n clear → busyTrain n clear trains ≡ withTrain trains (firstOf (hasTrain trains) clear)
+unfolding busyTrain busy
+busy-first n clear trains w = ap (withTrain trains) (rising-first n (hasTrain trains) clear w)
 
 -- 14 and 42: the lowest listed point is the lower of the first of each list.
 module _ (n : ℕ) (normal reverse : List ℕ) (w : RisingTracks n normal) (v : RisingTracks n reverse) where

@@ -4,13 +4,14 @@ use Prim.Native.Nat.{ℕ}
 use mathlib.Core.Bool.{Bool}
 use mathlib.Core.Path.{_≡_ as _is_, _≡_}
 use Rattle.laws.specs.Once.{equal-once}
+use Rattle.events.specs.declared.Met.{Met}
 use Rattle.laws.specs.declared.Found.{Found}
 use Rattle.laws.specs.Search.{lowest}
 use Rattle.plan.specs.Layout.{signalAt}
 use Rattle.plan.specs.Image.{planOf}
 use Rattle.state.specs.Cells.{trainsIn, liesIn, signalsIn}
 use Rattle.decide.specs.Along.{firstOf, lower, held}
-use Rattle.events.specs.Decide.{hasTrain, isReverse, derails, stands, busyTrack, heldPoint, derailedPoint, redAt, wayOut, runsThrough}
+use Rattle.events.specs.Decide.{hasTrain, isReverse, derails, stands, withTrain, busyTrain, heldPoint, derailedPoint, redAt, wayOut, runsThrough}
 
 pub has-train-once : (cells : List ℕ) (track : ℕ) (r r₂ : Bool)
     → (r ≡ hasTrain (trainsIn cells) track)
@@ -24,17 +25,17 @@ pub is-reverse-once : (cells : List ℕ) (point : ℕ) (r r₂ : Bool)
     → r is r₂
 is-reverse-once cells point r r₂ by-one by-other = equal-once _ _ _ by-one by-other
 
-pub busy-in-once : (tracks cells : List ℕ) (r r₂ : Found)
-    → (r ≡ firstOf (hasTrain (trainsIn cells)) tracks)
-    → (r₂ ≡ firstOf (hasTrain (trainsIn cells)) tracks)
+pub busy-in-once : (tracks cells : List ℕ) (r r₂ : Met)
+    → (r ≡ withTrain (trainsIn cells) (firstOf (hasTrain (trainsIn cells)) tracks))
+    → (r₂ ≡ withTrain (trainsIn cells) (firstOf (hasTrain (trainsIn cells)) tracks))
     → r is r₂
 busy-in-once tracks cells r r₂ by-one by-other = equal-once _ _ _ by-one by-other
 
-pub busy-track-once : (count : ℕ) (clear cells : List ℕ) (r r₂ : Found)
-    → (r ≡ busyTrack count clear (trainsIn cells))
-    → (r₂ ≡ busyTrack count clear (trainsIn cells))
+pub busy-train-once : (count : ℕ) (clear cells : List ℕ) (r r₂ : Met)
+    → (r ≡ busyTrain count clear (trainsIn cells))
+    → (r₂ ≡ busyTrain count clear (trainsIn cells))
     → r is r₂
-busy-track-once count clear cells r r₂ by-one by-other = equal-once _ _ _ by-one by-other
+busy-train-once count clear cells r r₂ by-one by-other = equal-once _ _ _ by-one by-other
 
 pub lower-once : (one other r r₂ : Found)
     → (r ≡ lower one other)

@@ -5,6 +5,7 @@ use events::Answer;
 use events::Deed;
 use events::Event;
 use events::Harm;
+use events::Met;
 use events::Refusal;
 use laws::Found;
 use layout::home_of;
@@ -23,7 +24,7 @@ use plan::limits::IMAGE;
 use plan::limits::TRACKS;
 use state::cells::CELLS;
 use state::cells::shown_at;
-use tests::busy_track;
+use tests::busy_train;
 use tests::derailed_point;
 use tests::front_of;
 use tests::has_train;
@@ -59,9 +60,9 @@ fn decide_request(
         return Answer::Refused(Refusal::NotRed);
     }
     let count = tracks(image);
-    let busy = busy_track(count, clear_of(image, route), cells);
-    if let Found::At(track) = busy {
-        return Answer::Refused(Refusal::Occupied(track));
+    let busy = busy_train(count, clear_of(image, route), cells);
+    if let Met::Train(track, train) = busy {
+        return Answer::Refused(Refusal::Occupied(track, train));
     }
     let normal = normal_of(image, route);
     let reverse = reverse_of(image, route);
@@ -111,9 +112,9 @@ fn decide_enter(image: &[u8; IMAGE], cells: &[u8; CELLS], entry: usize, train: u
     if let Found::At(_) = front {
         return Answer::Refused(Refusal::TrainIn);
     }
-    let busy = busy_track(count, entry_clear(image, entry), cells);
-    if let Found::At(other) = busy {
-        return Answer::Refused(Refusal::Occupied(other));
+    let busy = busy_train(count, entry_clear(image, entry), cells);
+    if let Met::Train(at, other) = busy {
+        return Answer::Refused(Refusal::Occupied(at, other));
     }
     let track = entry_track(image, entry);
     if has_train(cells, track) {

@@ -1,5 +1,6 @@
 // The tests of document 01, each over the lists and arrays that it looks at. Where a test finds several tracks or points, the lowest is named; what
 // ends in `_in` finds the first of a list.
+use events::Met;
 use laws::Found;
 use layout::home_of;
 use layout::is_legged;
@@ -24,7 +25,7 @@ ghost use Rattle.plan.specs.Layout.{signalAt};
 ghost use Rattle.plan.specs.Image.{planOf};
 ghost use Rattle.state.specs.Cells.{trainsIn, liesIn, signalsIn};
 ghost use Rattle.decide.specs.Along.{RisingTracks, firstOf, lower, held};
-ghost use Rattle.events.specs.Decide.{hasTrain, isReverse, derails, stands, busyTrack, heldPoint, derailedPoint, redAt, wayOut, runsThrough};
+ghost use Rattle.events.specs.Decide.{hasTrain, isReverse, derails, stands, withTrain, busyTrain, heldPoint, derailedPoint, redAt, wayOut, runsThrough};
 
 // Whether a track has a train.
 pub fn has_train(cells: &[u8; CELLS], track: usize) -> bool
@@ -42,27 +43,28 @@ fn is_reverse(cells: &[u8; CELLS], point: usize) -> bool
     lie_at(cells, point) == 1
 }
 
-// The first track of a list that has a train.
-fn busy_in(tracks: &[u8], cells: &[u8; CELLS]) -> Found
+// The first track of a list that has a train, and the train: what is looked at is what is handed back.
+fn busy_in(tracks: &[u8], cells: &[u8; CELLS]) -> Met
     requires { ⌜ All (λ u. u < mostTracks) (now tracks) ⌝ }
-    ensures { λ r. ⌜ r ≡ firstOf (hasTrain (trainsIn (now (cells .entry)))) (now (tracks .entry)) ⌝ }
+    ensures { λ r. ⌜ r ≡ withTrain (trainsIn (now (cells .entry))) (firstOf (hasTrain (trainsIn (now (cells .entry)))) (now (tracks .entry))) ⌝ }
 {
     let mut place = 0;
     while place < tracks.len() {
         let track = wide(tracks[place]);
-        if has_train(cells, track) {
-            return Found::At(track);
+        let train = train_at(cells, track);
+        if train != 0 {
+            return Met::Train(track, train);
         }
         place += 1;
     }
-    Found::Nothing
+    Met::Nobody
 }
 
-// 13: the lowest track of a clear list that has a train. A clear list rises, so that it is the first. The count of tracks is for the contract alone,
-// which names the lowest of so many; so it is for 14 and 42.
-pub fn busy_track(count: usize, clear: &[u8], cells: &[u8; CELLS]) -> Found
+// 13: the lowest track of a clear list that has a train, and the train that stands there. A clear list rises, so that it is the first. The count of
+// tracks is for the contract alone, which names the lowest of so many; so it is for 14 and 42.
+pub fn busy_train(count: usize, clear: &[u8], cells: &[u8; CELLS]) -> Met
     requires { ⌜ (count ≤ mostTracks) × RisingTracks count (now clear) ⌝ }
-    ensures { λ r. ⌜ r ≡ busyTrack count (now (clear .entry)) (trainsIn (now (cells .entry))) ⌝ }
+    ensures { λ r. ⌜ r ≡ busyTrain count (now (clear .entry)) (trainsIn (now (cells .entry))) ⌝ }
 {
     busy_in(clear, cells)
 }

@@ -1,7 +1,7 @@
 -- The impostors fail: on the small plan, from fresh, an unknown event must be refused and a first train must be let in; without a clear list a
 -- second one must be called a collision.
 use mathlib.Core.Path.{_≡_, refl, sym, ap, _∙_, subst}
-use mathlib.Core.Logic.{_≢_, inl, inr}
+use mathlib.Core.Logic.{_≢_, _⊎_, inl, inr}
 use mathlib.Core.List.{List, [], _∷_, _++_}
 use Prim.Native.Nat.{ℕ, _+_, _<_, _≤_}
 use native.Mathlib.Omega.{arith}
@@ -10,14 +10,15 @@ use lib.ListN.{length}
 use Rattle.laws.specs.declared.Found.the-variants.{At}
 use Rattle.laws.specs.Tests.{never, same?, below?}
 use Rattle.laws.specs.Answers.{None, Gives}
-use Rattle.laws.specs.Lists.{All}
+use Rattle.laws.specs.Lists.{All, In}
 use Rattle.plan.specs.Records.{Plan, entryOf}
 use Rattle.plan.specs.File.{Readable}
 use Rattle.rules.specs.Verdict.{Sound}
 use Rattle.state.specs.declared.State.{State}
 use Rattle.state.specs.State.{noTrain, trainAt, HasTrain, WellFormed, fresh}
 use Rattle.events.specs.declared.Event.{Event}
-use Rattle.events.specs.declared.Event.the-variants.{Enter, Unknown}
+use Rattle.events.specs.declared.Event.the-variants.{Request, Cancel, Enter, Move, Unknown}
+use Rattle.events.specs.declared.Met.the-variants.{Train}
 use Rattle.events.specs.declared.Refusal.the-variants.{IllFormed, BadEvent}
 use Rattle.events.specs.declared.Harm.{Harm}
 use Rattle.events.specs.declared.Harm.the-variants.{Collision}
@@ -25,7 +26,7 @@ use Rattle.events.specs.declared.Answer.{Answer}
 use Rattle.events.specs.declared.Deed.the-variants.{Entered}
 use Rattle.events.specs.declared.Answer.the-variants.{Refused, Accident, Done}
 use Rattle.events.specs.Answers.{deedComes, deedLeaves}
-use Rattle.events.specs.Meaning.{InPlan, Busy, enterTable, eventTable, tableOf, Given, AfterEntry, Follows}
+use Rattle.events.specs.Meaning.{clearFor, InPlan, Busy, Meets, enterTable, eventTable, tableOf, Given, AfterEntry, Follows}
 use Rattle.events.proofs.Told.{Told}
 use Rattle.events.proofs.Given.{one-given as one-given-in, told}
 use Rattle.events.proofs.Kept.{stays, fresh-formed, no-train}
@@ -56,6 +57,27 @@ known train t = (omega arith, t)
 no-clear : (σ : State) → None (Busy bare σ (entryOf bare 0 .clear))
 unfolding small entryOf
 no-clear σ u b = not-suc-le-zero (b .0 .1)
+
+-- what 13 names is met on the event's clear list
+stranger : (p : Plan) (σ : State) (event : Event) {u train : ℕ} → Meets p σ (clearFor p event) (Train u train)
+    → (trainAt σ u ≢ train) ⊎ (In u (clearFor p event) → ⊥) ⊎ (HasTrain σ u → ⊥) ⊎ ((v : ℕ) × (v < u) × In v (clearFor p event) × HasTrain σ v) → ⊥
+stranger p σ event (lowest, stands) (inl n) = n stands
+stranger p σ event (lowest, stands) (inr (inl n)) = n (lowest .such .0)
+stranger p σ event (lowest, stands) (inr (inr (inl n))) = n (lowest .such .1)
+stranger p σ event (lowest, stands) (inr (inr (inr (v, h, listed, busy)))) = lowest .noLower v h (listed, busy)
+
+-- and a cancel, a move and what is no event look at none
+elsewhere : (p : Plan) (σ : State) (event : Event) (n : ℕ) {u train : ℕ} → (event ≡ Cancel n) ⊎ (event ≡ Move n) ⊎ (event ≡ Unknown)
+    → Meets p σ (clearFor p event) (Train u train) → ⊥
+elsewhere p σ (Request r) n (inl e) (lowest, stands) = never (cc)
+elsewhere p σ (Request r) n (inr (inl e)) (lowest, stands) = never (cc)
+elsewhere p σ (Request r) n (inr (inr e)) (lowest, stands) = never (cc)
+elsewhere p σ (Enter i other) n (inl e) (lowest, stands) = never (cc)
+elsewhere p σ (Enter i other) n (inr (inl e)) (lowest, stands) = never (cc)
+elsewhere p σ (Enter i other) n (inr (inr e)) (lowest, stands) = never (cc)
+elsewhere p σ (Cancel r) n off (lowest, stands) = not-suc-le-zero (lowest .such .0 .1)
+elsewhere p σ (Move other) n off (lowest, stands) = not-suc-le-zero (lowest .such .0 .1)
+elsewhere p σ Unknown n off (lowest, stands) = not-suc-le-zero (lowest .such .0 .1)
 
 must-refuse : Given bare fresh Unknown (Refused BadEvent)
 unfolding Gives tableOf eventTable
@@ -250,6 +272,10 @@ impostors = record {
   sharedFails = λ box p reads sound events k r x n h g d. n (d p reads sound events .single k r x h g);
   holdsFail = λ box p reads sound events r x w d.
       let held = d p reads sound events .held r x in elim w [ inl (h, n) ↦ n (held .0 h) | inr (s, n) ↦ n (held .1 s) ];
+  strangerFails = λ box p reads σ event u train e wrong names. stranger p σ event (names .names p reads σ event u train e) wrong;
+  elsewhereFails = λ box p reads σ event n u train off e names. elsewhere p σ event n off (names .names p reads σ event u train e);
+  muteFails = λ box p reads σ w r h red u lowest n names. n (names .request p reads σ w r h red u (trainAt σ u) (lowest, refl));
+  dumbFails = λ box p reads σ w e other h k new u lowest n names. n (names .entry p reads σ w e other h k new u (trainAt σ u) (lowest, refl));
   aloofFails = λ box p reads r σ τ w v same n agrees. n (agrees p reads r σ τ w v same);
   miserFails = refuses-all;
   pastFails = writes-past;

@@ -14,9 +14,10 @@
 --   rules/specs/Verdict.antt     rules, their list; Sound, each sentence is true of every row; Breaks, the lowest broken rule and row; ruleNumber and ruleRow, the
 --                                document's numbers of a Verdict (rules/src/lib.rt)
 --   state/specs/State.antt       State (state/src/lib.rt) and its views trainAt, HasTrain, Holds; fresh; WellFormed
---   events/src/lib.rt            Event, Answer, Refusal, Harm, Deed; events/specs/Events.antt: eventsOf, the events of any bytes
+--   events/src/lib.rt            Event, Answer, Refusal, Met, Harm, Deed; events/specs/Events.antt: eventsOf, the events of any bytes
 --   events/specs/Answers.antt    comesOn, arrivesOn, leavesFrom: where an answer, if it is a deed (ifDone), brings a train or takes one away
---   events/specs/Meaning.antt    Given, the table of answers; Follows, what a state shows after an answer; SameTrains and so on; Alike
+--   events/specs/Meaning.antt    Given, the table of answers; Follows, what a state shows after an answer; SameTrains and so on; Alike; clearFor and Meets, what
+--                                is met on the clear list of an event
 --   laws/specs/Answers.antt      Table, the rows of a table of answers, and Gives, the answer that it gives
 --   laws/specs/Lists.antt        All: each element of a list is so; In: a number stands in a list; laws/src/lib.rt: Found; laws/specs/Sets.antt: member, the bits
 --                                of a number (a route holds a point); laws/specs/Tests.antt: Is, a test is passed
@@ -38,7 +39,7 @@ use Rattle.laws.specs.declared.Found.{Found}
 use Rattle.laws.specs.declared.Found.the-variants.{At, Nothing}
 use Rattle.laws.specs.Lists.{All}
 use Rattle.plan.specs.Limits.{imageSize}
-use Rattle.plan.specs.Records.{Plan}
+use Rattle.plan.specs.Records.{Plan, routeOf, entryOf}
 use Rattle.plan.specs.Routes.{Listed, Releases}
 use Rattle.plan.specs.File.{fileOf, Readable}
 use Rattle.plan.specs.Image.{imageOf, planOf}
@@ -55,14 +56,15 @@ use Rattle.rules.specs.Verdict.{Sound, Breaks, ruleNumber, ruleRow}
 use Rattle.state.specs.declared.State.{State}
 use Rattle.state.specs.State.{noTrain, trainAt, HasTrain, Holds, WellFormed, fresh}
 use Rattle.events.specs.declared.Event.{Event}
-use Rattle.events.specs.declared.Event.the-variants.{Request}
-use Rattle.events.specs.declared.Refusal.the-variants.{IllFormed}
+use Rattle.events.specs.declared.Event.the-variants.{Request, Enter}
+use Rattle.events.specs.declared.Met.the-variants.{Train}
+use Rattle.events.specs.declared.Refusal.the-variants.{IllFormed, Occupied}
 use Rattle.events.specs.declared.Harm.{Harm}
 use Rattle.events.specs.declared.Deed.the-variants.{Granted, Cancelled}
 use Rattle.events.specs.declared.Answer.{Answer}
 use Rattle.events.specs.declared.Answer.the-variants.{Refused, Accident, Done}
 use Rattle.events.specs.Answers.{comesOn, arrivesOn, leavesFrom}
-use Rattle.events.specs.Meaning.{Given, Follows, Alike, SameTrains, SameLies, SameHolds, SameSignals}
+use Rattle.events.specs.Meaning.{clearFor, Meets, InPlan, SignalRed, Given, Follows, Alike, SameTrains, SameLies, SameHolds, SameSignals}
 
 pub record Box : Type 0 where
   pub answer : Plan → State → Event → Answer
@@ -205,6 +207,16 @@ pub record Safe (p : Plan) (answers : List Answer) (σ : State) : Type 0 where
 -- Every box that meets demand 2 meets it (proofs/Demand3.antt, demand2→demand3).
 abbrev pub Demand3 : Box → Type 0
 Demand3 box = (p : Plan) → Readable p → Sound p → (events : List Event) → Safe p (history box p fresh events) (reached box p fresh events)
+
+-- 13 names the lowest track of the event's clear list that has a train, and the train that stands there (document 02, No. 3); and what is met there is
+-- named, where no test before 13 applies. Every box that meets demand 2 is so (proofs/Agreement.antt, demand2→names-train).
+pub record NamesTrain (box : Box) : Type 0 where
+  pub names : (p : Plan) → Readable p → (σ : State) (event : Event) (u train : ℕ) → box .answer p σ event ≡ Refused (Occupied u train)
+      → Meets p σ (clearFor p event) (Train u train)
+  pub request : (p : Plan) → Readable p → (σ : State) → WellFormed p σ → (r : ℕ) → r < length (p .routes) → SignalRed p σ r
+      → (u train : ℕ) → Meets p σ (routeOf p r .clear) (Train u train) → box .answer p σ (Request r) ≡ Refused (Occupied u train)
+  pub entry : (p : Plan) → Readable p → (σ : State) → WellFormed p σ → (e other : ℕ) → e < length (p .entries) → other ≢ noTrain → (InPlan p σ other → ⊥)
+      → (u train : ℕ) → Meets p σ (entryOf p e .clear) (Train u train) → box .answer p σ (Enter e other) ≡ Refused (Occupied u train)
 
 -- Agreement: two well-formed states that agree on what a request looks at give it the same answer. Every box that meets demand 2 is so
 -- (proofs/Agreement.antt, demand2→agreement).

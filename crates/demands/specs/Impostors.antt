@@ -1,13 +1,15 @@
 -- The impostors of document 01, "No loose ends": boxes that would pass for one, and the demand that each of them fails. Ours, beside the document's: boxes
--- deaf to events or states, one that is right but in one place, one for each part of demand 3 and for Agreement, and one for each part of writing, so that
--- none of them is idle.
+-- deaf to events or states, one that is right but in one place, one for each part of demand 3, for NamesTrain and for Agreement, and one for each part
+-- of writing, so that none of them is idle.
 use mathlib.Core.Path.{_≡_}
 use mathlib.Core.Logic.{_≢_, _⊎_}
 use mathlib.Core.List.{List, [], _∷_}
-use Prim.Native.Nat.{ℕ, _+_, _≤_}
+use Prim.Native.Nat.{ℕ, _+_, _<_, _≤_}
 use lib.ListN.{length, getD}
+use Rattle.laws.specs.Lists.{In}
+use Rattle.laws.specs.Answers.{LowestSuch}
 use Rattle.plan.specs.Limits.{imageSize}
-use Rattle.plan.specs.Records.{Plan}
+use Rattle.plan.specs.Records.{Plan, routeOf, entryOf}
 use Rattle.plan.specs.Routes.{Listed}
 use Rattle.plan.specs.File.{Readable}
 use Rattle.reading.specs.declared.Form.{Form}
@@ -18,17 +20,17 @@ use Rattle.writing.specs.declared.Written.the-variants.{Refused as Unwrote}
 use Rattle.rules.specs.declared.Verdict.{Verdict}
 use Rattle.rules.specs.Verdict.{Sound, ruleNumber, ruleRow}
 use Rattle.state.specs.declared.State.{State}
-use Rattle.state.specs.State.{Holds, WellFormed, fresh}
+use Rattle.state.specs.State.{noTrain, trainAt, HasTrain, Holds, WellFormed, fresh}
 use Rattle.events.specs.declared.Event.{Event}
-use Rattle.events.specs.declared.Event.the-variants.{Request, Enter}
+use Rattle.events.specs.declared.Event.the-variants.{Request, Cancel, Enter, Move, Unknown}
 use Rattle.events.specs.declared.Refusal.{Refusal}
-use Rattle.events.specs.declared.Refusal.the-variants.{IllFormed, BadEvent}
+use Rattle.events.specs.declared.Refusal.the-variants.{IllFormed, BadEvent, Occupied}
 use Rattle.events.specs.declared.Harm.{Harm}
 use Rattle.events.specs.declared.Deed.the-variants.{Entered, Moved, Left}
 use Rattle.events.specs.declared.Answer.{Answer}
 use Rattle.events.specs.declared.Answer.the-variants.{Refused, Accident, Done}
-use Rattle.demands.specs.Demands.{Box, Demand2, SameState, Reads, ReadsAs, Writer, Writes, Judges, history, reached, comes, goes, shown, SinceGrant, Demand3, Agreement}
-use Rattle.events.specs.Meaning.{Alike}
+use Rattle.demands.specs.Demands.{Box, Demand2, SameState, Reads, ReadsAs, Writer, Writes, Judges, history, reached, comes, goes, shown, SinceGrant, Demand3, NamesTrain, Agreement}
+use Rattle.events.specs.Meaning.{Busy, clearFor, InPlan, SignalRed, Alike}
 
 -- it refuses everything, whatever the reason
 abbrev pub RefusesAll : Box → Type 0
@@ -135,6 +137,17 @@ pub record Impostors : Type 0 where
       → (Holds (reached box p fresh events) r x × (Since p r x (history box p fresh events) → ⊥))
       ⊎ (Since p r x (history box p fresh events) × (Holds (reached box p fresh events) r x → ⊥))
       → Demand3 box → ⊥
+  -- a box whose 13 names another train than the one on the track, or a track that is not in the event's clear list, has no train or is not the lowest
+  pub strangerFails : (box : Box) (p : Plan) → Readable p → (σ : State) (event : Event) (u train : ℕ) → box .answer p σ event ≡ Refused (Occupied u train)
+      → (trainAt σ u ≢ train) ⊎ (In u (clearFor p event) → ⊥) ⊎ (HasTrain σ u → ⊥) ⊎ ((v : ℕ) × (v < u) × In v (clearFor p event) × HasTrain σ v)
+      → NamesTrain box → ⊥
+  -- one that says 13 to a cancel, a move or what is no event; and one that has another answer for a train in the way of a request or an entry
+  pub elsewhereFails : (box : Box) (p : Plan) → Readable p → (σ : State) (event : Event) (n u train : ℕ) → (event ≡ Cancel n) ⊎ (event ≡ Move n) ⊎ (event ≡ Unknown)
+      → box .answer p σ event ≡ Refused (Occupied u train) → NamesTrain box → ⊥
+  pub muteFails : (box : Box) (p : Plan) → Readable p → (σ : State) → WellFormed p σ → (r : ℕ) → r < length (p .routes) → SignalRed p σ r
+      → (u : ℕ) → LowestSuch (Busy p σ (routeOf p r .clear)) u → box .answer p σ (Request r) ≢ Refused (Occupied u (trainAt σ u)) → NamesTrain box → ⊥
+  pub dumbFails : (box : Box) (p : Plan) → Readable p → (σ : State) → WellFormed p σ → (e other : ℕ) → e < length (p .entries) → other ≢ noTrain → (InPlan p σ other → ⊥)
+      → (u : ℕ) → LowestSuch (Busy p σ (entryOf p e .clear)) u → box .answer p σ (Enter e other) ≢ Refused (Occupied u (trainAt σ u)) → NamesTrain box → ⊥
   -- a box whose answer to a request goes by something that it doesn't look at
   pub aloofFails : (box : Box) (p : Plan) → Readable p → (r : ℕ) (σ τ : State) → WellFormed p σ → WellFormed p τ → Alike p r σ τ
       → box .answer p σ (Request r) ≢ box .answer p τ (Request r) → Agreement box → ⊥

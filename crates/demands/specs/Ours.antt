@@ -17,7 +17,7 @@ use Rattle.state.specs.State.{fresh}
 use Rattle.events.specs.Events.{eventsOf}
 use Rattle.events.specs.Decide.{answer}
 use Rattle.events.specs.After.{nextState}
-use Rattle.demands.specs.Demands.{Box, Demand2, Demand3, Reads, Writer, Writes, RoundTrip, Judges, Agreement, Safe, history, reached}
+use Rattle.demands.specs.Demands.{Box, Demand2, Demand3, Reads, Writer, Writes, RoundTrip, Judges, NamesTrain, Agreement, Safe, history, reached}
 
 -- the answer of events/specs/Decide.antt, and the state of events/specs/After.antt that goes by it
 abbrev pub ours : Box
@@ -47,5 +47,7 @@ pub record Shown : Type 0 where
   pub safe : Demand3 ours
   pub file-safe : (file bytes : List ℕ) {p : Plan} {at : ℕ} {rest : List ℕ} → parse file ≡ got p at rest → verdict p ≡ Accepted
       → Safe p (history ours p fresh (eventsOf bytes)) (reached ours p fresh (eventsOf bytes))
+  -- 13 names the train that stands on the track that it names
+  pub names-train : NamesTrain ours
   -- two states that agree on what a request looks at
   pub agrees : Agreement ours

@@ -1,5 +1,5 @@
--- The starred slips of document 01 and the bench session, as one table: the bytes of a plan file, the bytes of its events, and the text that is
--- printed. One claim over it (proofs/Table.antt) is computed from the definitions of all rooms.
+-- The starred slips of document 01, the bench session and a train in the way of an entry and of a request, as one table: the bytes of a plan file, the
+-- bytes of its events, and the text that is printed. One claim over it (proofs/Table.antt) is computed from the definitions of all rooms.
 use Prim.Native.Nat.{ℕ}
 use Prim.Native.String.{String}
 use mathlib.Core.List.{List, [], _∷_, _++_}
@@ -48,4 +48,7 @@ table =
     ∷ row (4 ∷ 0 ∷ 2 ∷ 0 ∷ 0 ∷ 0 ∷ 2 ∷ 0 ∷ 0 ∷ 2 ∷ 3 ∷ 0 ∷ 1 ∷ 3 ∷ 0 ∷ 0 ∷ 0 ∷ 2 ∷ 0 ∷ 1 ∷ 2 ∷ 0 ∷ 2 ∷ 2 ∷ 3 ∷ 2 ∷ 2 ∷ 3 ∷ 1 ∷ 2 ∷ 0 ∷ 1 ∷ 2 ∷ 2 ∷ 1 ∷ 2 ∷ 2 ∷ 3 ∷ 2 ∷ 2 ∷ 3 ∷ 0 ∷ 1 ∷ 2 ∷ 1 ∷ 3 ∷ 2 ∷ 2 ∷ 0 ∷ 1 ∷ 0 ∷ 1 ∷ 1 ∷ 1 ∷ []) ([]) "rule 11 row 0\n"
     -- and route 1's clear list empty as well
     ∷ row (4 ∷ 0 ∷ 2 ∷ 0 ∷ 0 ∷ 0 ∷ 2 ∷ 0 ∷ 0 ∷ 2 ∷ 3 ∷ 0 ∷ 1 ∷ 3 ∷ 0 ∷ 0 ∷ 0 ∷ 2 ∷ 0 ∷ 1 ∷ 2 ∷ 0 ∷ 2 ∷ 2 ∷ 3 ∷ 2 ∷ 2 ∷ 3 ∷ 1 ∷ 2 ∷ 0 ∷ 1 ∷ 2 ∷ 2 ∷ 1 ∷ 2 ∷ 2 ∷ 3 ∷ 0 ∷ 0 ∷ 1 ∷ 2 ∷ 1 ∷ 3 ∷ 2 ∷ 2 ∷ 0 ∷ 1 ∷ 0 ∷ 1 ∷ 1 ∷ 1 ∷ []) (3 ∷ 0 ∷ 1 ∷ 1 ∷ 0 ∷ 0 ∷ 4 ∷ 1 ∷ 0 ∷ 1 ∷ 1 ∷ 0 ∷ []) "rule 8 row 1\nentered 1 track 0\ngranted 0\nmoved 1 from 0 to 2\naccident 42 point 2\n"
+    -- with route 0's clear list 1, 2, 3 and entry 0's 0, 1, 3: 13 names the lowest track of the list that has a train, and the train that stands there,
+    -- be its number the higher or the lower of two; not the train that would come in, not that of track 0, of the entry's track or of the list's first
+    ∷ row (4 ∷ 0 ∷ 2 ∷ 0 ∷ 0 ∷ 0 ∷ 2 ∷ 0 ∷ 0 ∷ 2 ∷ 3 ∷ 0 ∷ 1 ∷ 3 ∷ 0 ∷ 0 ∷ 0 ∷ 2 ∷ 0 ∷ 1 ∷ 2 ∷ 0 ∷ 2 ∷ 2 ∷ 3 ∷ 3 ∷ 1 ∷ 2 ∷ 3 ∷ 1 ∷ 2 ∷ 0 ∷ 1 ∷ 3 ∷ 2 ∷ 1 ∷ 2 ∷ 2 ∷ 3 ∷ 2 ∷ 2 ∷ 3 ∷ 0 ∷ 1 ∷ 2 ∷ 1 ∷ 3 ∷ 2 ∷ 2 ∷ 0 ∷ 3 ∷ 0 ∷ 1 ∷ 3 ∷ 1 ∷ 1 ∷ 1 ∷ []) (3 ∷ 0 ∷ 200 ∷ 1 ∷ 0 ∷ 0 ∷ 4 ∷ 200 ∷ 0 ∷ 4 ∷ 200 ∷ 0 ∷ 3 ∷ 1 ∷ 9 ∷ 1 ∷ 1 ∷ 0 ∷ 3 ∷ 0 ∷ 7 ∷ 1 ∷ 0 ∷ 0 ∷ 4 ∷ 200 ∷ 0 ∷ 1 ∷ 1 ∷ 0 ∷ 4 ∷ 9 ∷ 0 ∷ 4 ∷ 9 ∷ 0 ∷ 3 ∷ 1 ∷ 100 ∷ 3 ∷ 0 ∷ 7 ∷ 1 ∷ 0 ∷ 0 ∷ []) "accepted\nentered 200 track 0\ngranted 0\nmoved 200 from 0 to 2\nmoved 200 from 2 to 3\nentered 9 track 1\nrefused 13 track 3 train 200\nrefused 13 track 1 train 9\nrefused 13 track 1 train 9\nleft 200 from 3\ngranted 1\nmoved 9 from 1 to 2\nmoved 9 from 2 to 3\nentered 100 track 1\nrefused 13 track 1 train 100\nrefused 13 track 1 train 100\n"
     ∷ []

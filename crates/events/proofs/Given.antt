@@ -2,34 +2,61 @@
 use mathlib.Core.Path.{_≡_, refl, sym, _∙_, subst}
 use mathlib.Core.Bool.{Bool, not, _&&_}
 use mathlib.Core.Logic.{_≢_, inl, inr, _↔_}
+use mathlib.Core.List.{List}
 use Prim.Native.Nat.{ℕ, _<_}
 use native.Mathlib.Omega.{arith}
 use lib.ListN.{length}
 use lib.Dec.{eqb, ltb}
 use borrow.Author.Tests.{eqb-false, ne-eqb, lt-ltb, ltb-true}
-use Rattle.laws.specs.Tests.{Is, and-l, and-r, and-i, not-t, not-i}
-use Rattle.laws.specs.Search.{lowest}
+use Rattle.laws.specs.Tests.{Is, never, and-l, and-r, and-i, not-t, not-i}
+use Rattle.laws.specs.declared.Found.{Found}
+use Rattle.laws.specs.declared.Found.the-variants.{At, Nothing}
+use Rattle.laws.specs.Lists.{In}
+use Rattle.laws.specs.Answers.{None, Table, names}
+use Rattle.laws.specs.Search.{lowest, unless}
 use Rattle.laws.specs.Rows.{Finds, Decides, last-row, asks-row, needs-row, needs-not-row, names-row, the-row, found-row, gives-one}
 use Rattle.plan.specs.Records.{Plan, homeOf, routeOf, entryOf, trackOf}
 use Rattle.plan.specs.File.{Readable}
 use Rattle.plan.proofs.Says.{exit-is}
 use Rattle.state.specs.declared.State.{State}
-use Rattle.state.specs.State.{noTrain, WellFormed}
+use Rattle.state.specs.State.{noTrain, trainAt, WellFormed}
 use Rattle.state.proofs.Formed.{formed, passes}
 use Rattle.events.specs.declared.Event.{Event}
 use Rattle.events.specs.declared.Event.the-variants.{Request, Cancel, Enter, Move, Unknown}
+use Rattle.events.specs.declared.Met.{Met}
+use Rattle.events.specs.declared.Met.the-variants.{Train, Nobody}
+use Rattle.events.specs.declared.Refusal.the-variants.{Occupied}
 use Rattle.events.specs.declared.Answer.{Answer}
+use Rattle.events.specs.declared.Answer.the-variants.{Refused}
 use Rattle.events.specs.Answers.{refusalNumber}
-use Rattle.events.specs.Decide.{busyTrack, heldPoint, derailedPoint, frontOf, redAt, wayOut, answerRequest, answerCancel, answerEnter, moveTo, moveFrom, answerMove, decided, answer}
-use Rattle.events.specs.Meaning.{FrontAt, RedAt, requestTable, cancelTable, enterTable, moveTable, eventTable, tableOf, Given}
+use Rattle.events.specs.Decide.{busyTrain, unlessTrain, heldPoint, derailedPoint, frontOf, redAt, wayOut, answerRequest, answerCancel, answerEnter, moveTo, moveFrom, answerMove, decided, answer}
+use Rattle.events.specs.Meaning.{Busy, Meets, FrontAt, RedAt, requestTable, cancelTable, enterTable, moveTable, eventTable, tableOf, Given}
 use Rattle.events.proofs.Facts.{clear-below, listed-below, entry-clear-below, one-signal}
-use Rattle.events.proofs.Reflect.{Tells, search-at, search-none, train-tests, red-tests, green-tests, busy-tells, held-tells, derails-tells, front-tells, in-tests, red-at, red-none, next-way, way-next, through-tests}
+use Rattle.events.proofs.Reflect.{Tells, search-at, search-none, train-tests, red-tests, green-tests, busy-train-tells, held-tells, derails-tells, front-tells, in-tests, red-at, red-none, next-way, way-next, through-tests}
 use Rattle.events.proofs.Told.{Entry, Front, Step, Told}
 
 searches : {n : ℕ} {f : ℕ → Bool} {Such : ℕ → Type 0} → Tells n f Such → Finds (lowest n f) Such
 searches t = record { at = λ x e. search-at t e; nothing = λ e. search-none t e }
 
 module _ (p : Plan) (R : Readable p) (σ : State) where
+  -- the row of 13: what its test finds is passed on
+  train-row : (clear : List ℕ) → ((u : ℕ) → In u clear → u < length (p .tracks)) → {c : Answer} {t : Table Answer}
+      → (None (Busy p σ clear) → Decides Answer (Told p σ) t c)
+      → Decides Answer (Told p σ) (names (Busy p σ clear) (λ u. Refused (Occupied u (trainAt σ u))) t)
+      (unlessTrain (busyTrain (length (p .tracks)) clear (σ .trains)) (λ u train. Refused (Occupied u train)) c)
+  unfolding unlessTrain unless refusalNumber
+  train-row clear below {c} {t} d = go (busyTrain (length (p .tracks)) clear (σ .trains)) (busy-train-tells p σ clear (length (p .tracks)) below)
+    where
+      named : ℕ → Answer
+      named u = Refused (Occupied u (trainAt σ u))
+
+      found : (o : Found) → Finds o (Busy p σ clear) → Decides Answer (Told p σ) (names (Busy p σ clear) named t) (unless o named c)
+      found o f = names-row f (λ u l. tt) d
+
+      go : (met : Met) → Meets p σ clear met → Decides Answer (Told p σ) (names (Busy p σ clear) named t) (unlessTrain met (λ u train. Refused (Occupied u train)) c)
+      go (Train u train) (such, stands) = rw (← stands) (found (At u) (record { at = λ x e. let same : u ≡ x = cc in rw (← same) such; nothing = λ e. never (cc) }))
+      go Nobody none = found Nothing (record { at = λ x e. never (cc); nothing = λ e. none })
+
   module _ (W : WellFormed p σ) where
     abbrev Answers : Event → Type 0
     Answers event = Decides Answer (Told p σ) (eventTable p σ event) (decided p σ event)
@@ -38,11 +65,11 @@ module _ (p : Plan) (R : Readable p) (σ : State) where
     route-there r = (ltb-true r (length (p .routes)), lt-ltb r (length (p .routes)))
 
     request-rows : (r : ℕ) → Answers (Request r)
-    unfolding eventTable requestTable decided answerRequest busyTrack heldPoint derailedPoint refusalNumber
+    unfolding eventTable requestTable decided answerRequest heldPoint derailedPoint refusalNumber
     request-rows r =
         needs-row (route-there r) (λ n. tt) λ known.
         needs-row (red-tests σ (routeOf p r .start)) (λ n. tt) λ isRed.
-        names-row (searches (busy-tells p σ (routeOf p r .clear) (length (p .tracks)) (clear-below p R r known))) (λ u l. tt) λ clear.
+        train-row (routeOf p r .clear) (clear-below p R r known) λ clear.
         names-row (searches (held-tells p σ r (length (p .tracks)) (listed-below p R r known))) (λ q l. tt) λ idle.
         names-row (searches (derails-tells p σ r (length (p .tracks)) (listed-below p R r known))) (λ q l. (r, known, clear, l .such)) λ calm.
         last-row (record { formed = W; known = known; clear = clear; idle = idle })
@@ -65,11 +92,11 @@ module _ (p : Plan) (R : Readable p) (σ : State) where
     )
 
     enter-rows : (e train : ℕ) → Answers (Enter e train)
-    unfolding eventTable enterTable decided answerEnter busyTrack refusalNumber
+    unfolding eventTable enterTable decided answerEnter refusalNumber
     enter-rows e train =
         needs-row (entry-there e train) (λ n. tt) λ known.
         asks-row (in-tests p σ W train (known .1)) (λ i. tt) λ new.
-        names-row (searches (busy-tells p σ (entryOf p e .clear) (length (p .tracks)) (entry-clear-below p R e (known .0)))) (λ u l. tt) λ clear.
+        train-row (entryOf p e .clear) (entry-clear-below p R e (known .0)) λ clear.
         let entry : Entry p σ train (entryOf p e .track) =
         record { formed = W; e = e; known = known .0; numbered = known .1; track = refl; new = new; clear = clear } in
         asks-row (train-tests σ (entryOf p e .track)) (λ t. inl (train, entry, t)) λ free.

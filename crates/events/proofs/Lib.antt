@@ -2,6 +2,8 @@ pub mod Bytes
 pub mod Pieces
 pub mod Facts
 pub mod Reflect
+pub mod Busy
+pub mod Named
 pub mod Told
 pub mod Given
 pub mod Cases

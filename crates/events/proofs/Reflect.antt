@@ -24,8 +24,8 @@ use Rattle.state.specs.declared.State.{State}
 use Rattle.state.specs.Holds.{empty}
 use Rattle.state.specs.State.{noTrain, normalLie, reverseLie, red, greenFor, trainAt, lieAt, heldBy, shownAt, HasTrain, WellFormed}
 use Rattle.state.proofs.Holds.{some-member, member-some}
-use Rattle.events.specs.Decide.{hasTrain, isRed, isGreen, isReverse, busy, heldListed, lieAfter, derails, stands, frontOf, inPlan, isFound, ifRed, redAt, wayOut, runsThrough}
-use Rattle.events.specs.Meaning.{Busy, HeldListed, OtherLie, Derails, FrontAt, InPlan, RedAt, Next, RunsThrough}
+use Rattle.events.specs.Decide.{hasTrain, isRed, isGreen, isReverse, busy, withTrain, busyTrain, heldListed, lieAfter, derails, stands, frontOf, inPlan, isFound, ifRed, redAt, wayOut, runsThrough}
+use Rattle.events.specs.Meaning.{Busy, Meets, HeldListed, OtherLie, Derails, FrontAt, InPlan, RedAt, Next, RunsThrough}
 use Rattle.events.proofs.Facts.{one-signal}
 
 -- A search over a test that tells what is so finds the lowest that is so.
@@ -78,6 +78,14 @@ module _ (p : Plan) (σ : State) where
     hears = λ u s. and-i _ _ (train-tests σ u .1 (s .1)) (in-has u clear (s .0));
     inside = λ u s. h u (s .0);
   }
+
+  pub busy-train-tells : (clear : List ℕ) (n : ℕ) → ((u : ℕ) → In u clear → u < n) → Meets p σ clear (busyTrain n clear (σ .trains))
+  unfolding busyTrain trainAt
+  busy-train-tells clear n h = go (lowest n (busy clear (σ .trains))) refl
+    where
+      go : (o : Found) → lowest n (busy clear (σ .trains)) ≡ o → Meets p σ clear (withTrain (σ .trains) o)
+      go (At u) e = (search-at (busy-tells clear n h) e, refl)
+      go Nothing e = search-none (busy-tells clear n h) e
 
   module _ (r n : ℕ) (h : (q : ℕ) → Listed p r q → q < n) where
     pub held-tells : Tells n (heldListed (routeOf p r .normal) (routeOf p r .reverse) (σ .holds)) (HeldListed p σ r)

@@ -17,7 +17,7 @@ unfoldable pub refusalNumber : Refusal → ℕ
 refusalNumber IllFormed = 10
 refusalNumber BadEvent = 11
 refusalNumber NotRed = 12
-refusalNumber (Occupied track) = 13
+refusalNumber (Occupied track train) = 13
 refusalNumber (Held point) = 14
 refusalNumber NotGreen = 15
 refusalNumber (HomeOccupied track) = 16
@@ -29,7 +29,7 @@ unfoldable pub refusalValues : Refusal → List ℕ
 refusalValues IllFormed = []
 refusalValues BadEvent = []
 refusalValues NotRed = []
-refusalValues (Occupied track) = track ∷ []
+refusalValues (Occupied track train) = track ∷ train ∷ []
 refusalValues (Held point) = point ∷ []
 refusalValues NotGreen = []
 refusalValues (HomeOccupied track) = track ∷ []

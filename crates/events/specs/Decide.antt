@@ -18,6 +18,8 @@ use Rattle.state.specs.State.{noTrain, normalLie, reverseLie, red, greenFor, we
 use Rattle.events.specs.declared.Event.{Event}
 use Rattle.events.specs.declared.Event.the-variants.{Request, Cancel, Enter, Move, Unknown}
 use Rattle.events.specs.declared.Refusal.the-variants.{IllFormed, BadEvent, NotRed, Occupied, Held, NotGreen, HomeOccupied, TrainIn, TrainOut, Red}
+use Rattle.events.specs.declared.Met.{Met}
+use Rattle.events.specs.declared.Met.the-variants.{Train, Nobody}
 use Rattle.events.specs.declared.Harm.the-variants.{Collision, RunThrough, Derailment}
 use Rattle.events.specs.declared.Deed.the-variants.{Granted, Cancelled, Entered, Moved, Left}
 use Rattle.events.specs.declared.Answer.{Answer}
@@ -57,10 +59,21 @@ derails normal reverse trains lies q = hasTrain trains q && not (eqb (lieAfter n
 unfoldable pub stands : List ℕ → ℕ → ℕ → Bool
 stands trains train u = eqb (getD trains u noTrain) train
 
--- The tests of a list: the lowest track or point is named.
+-- The tests of a list: the lowest track or point is named, and a track with its train.
 
-unfoldable pub busyTrack : ℕ → List ℕ → List ℕ → Found
-busyTrack tracks clear trains = lowest tracks (busy clear trains)
+-- a track that was found, with the train that stands on it, or nobody
+abbrev pub withTrain : List ℕ → Found → Met
+withTrain trains (At u) = Train u (getD trains u noTrain)
+withTrain trains Nothing = Nobody
+
+-- the lowest track of the clear list that has a train, and the train that stands there
+unfoldable pub busyTrain : ℕ → List ℕ → List ℕ → Met
+busyTrain tracks clear trains = withTrain trains (lowest tracks (busy clear trains))
+
+-- the answer for a train in the way, or else the rest of the chain
+unfoldable pub unlessTrain : Met → (ℕ → ℕ → Answer) → Answer → Answer
+unlessTrain (Train u train) f rest = f u train
+unlessTrain Nobody f rest = rest
 
 unfoldable pub heldPoint : ℕ → List ℕ → List ℕ → List ℕ → Found
 heldPoint tracks normal reverse holds = lowest tracks (heldListed normal reverse holds)
@@ -104,7 +117,7 @@ module _ (p : Plan) where
   unfoldable pub answerRequest : State → ℕ → Answer
   answerRequest σ r =
       cond (isRed (σ .signals) (routeOf p r .start))
-      (unless (busyTrack (length (p .tracks)) (routeOf p r .clear) (σ .trains)) (λ u. Refused (Occupied u))
+      (unlessTrain (busyTrain (length (p .tracks)) (routeOf p r .clear) (σ .trains)) (λ u train. Refused (Occupied u train))
       (unless (heldPoint (length (p .tracks)) (routeOf p r .normal) (routeOf p r .reverse) (σ .holds)) (λ q. Refused (Held q))
       (unless (derailedPoint (length (p .tracks)) (routeOf p r .normal) (routeOf p r .reverse) (σ .trains) (σ .lies)) (λ q. Accident (Derailment q))
       (Done (Granted r)))))
@@ -122,7 +135,7 @@ module _ (p : Plan) where
   unfoldable pub answerEnter : List ℕ → ℕ → ℕ → Answer
   answerEnter trains e train =
       cond (inPlan p trains train) (Refused TrainIn)
-      (unless (busyTrack (length (p .tracks)) (entryOf p e .clear) trains) (λ u. Refused (Occupied u))
+      (unlessTrain (busyTrain (length (p .tracks)) (entryOf p e .clear) trains) (λ u other. Refused (Occupied u other))
       (cond (hasTrain trains (entryOf p e .track)) (Accident (Collision (entryOf p e .track)))
       (Done (Entered train (entryOf p e .track)))))
 

@@ -2,11 +2,11 @@
 use mathlib.Core.Path.{_≡_}
 use mathlib.Core.Bool.{true, false}
 use mathlib.Core.Logic.{_≢_, _⊎_}
-use mathlib.Core.List.{List}
+use mathlib.Core.List.{List, []}
 use Prim.Native.Nat.{ℕ, _<_}
 use lib.ListN.{length}
 use Rattle.laws.specs.Lists.{In}
-use Rattle.laws.specs.Answers.{Table, last, asks, needs, names, the, Gives}
+use Rattle.laws.specs.Answers.{None, LowestSuch, Table, last, asks, needs, names, the, Gives}
 use Rattle.plan.specs.Kinds.{out, leg, Exit, Legged}
 use Rattle.plan.specs.Records.{Plan, homeOf, routeOf, entryOf, trackOf}
 use Rattle.plan.specs.Layout.{StandsAt}
@@ -16,17 +16,32 @@ use Rattle.state.specs.State.{noTrain, normalLie, reverseLie, red, greenFor, tr
 use Rattle.events.specs.declared.Event.{Event}
 use Rattle.events.specs.declared.Event.the-variants.{Request, Cancel, Enter, Move, Unknown}
 use Rattle.events.specs.declared.Refusal.the-variants.{IllFormed, BadEvent, NotRed, Occupied, Held, NotGreen, HomeOccupied, TrainIn, TrainOut, Red}
+use Rattle.events.specs.declared.Met.{Met}
+use Rattle.events.specs.declared.Met.the-variants.{Train, Nobody}
 use Rattle.events.specs.declared.Harm.the-variants.{Collision, RunThrough, Derailment}
 use Rattle.events.specs.declared.Deed.{Deed}
 use Rattle.events.specs.declared.Deed.the-variants.{Granted, Cancelled, Entered, Moved, Left}
 use Rattle.events.specs.declared.Answer.{Answer}
 use Rattle.events.specs.declared.Answer.the-variants.{Refused, Accident, Done}
 
+-- the clear list that an event looks at: its route's or its entry's; the others look at none
+abbrev pub clearFor : Plan → Event → List ℕ
+clearFor p (Request r) = routeOf p r .clear
+clearFor p (Cancel r) = []
+clearFor p (Enter e train) = entryOf p e .clear
+clearFor p (Move train) = []
+clearFor p Unknown = []
+
 -- What the table speaks of.
 module _ (p : Plan) (σ : State) where
   -- a track of a clear list has a train
   abbrev pub Busy : List ℕ → ℕ → Type 0
   Busy clear u = In u clear × HasTrain σ u
+
+  -- what is met on a clear list: the lowest of its tracks that has a train, and the train that stands there; or nobody, where none has one
+  abbrev pub Meets : List ℕ → Met → Type 0
+  Meets clear (Train u train) = LowestSuch (Busy clear) u × (trainAt σ u ≡ train)
+  Meets clear Nobody = None (Busy clear)
 
   -- a listed point is held by any route
   abbrev pub HeldListed : ℕ → ℕ → Type 0
@@ -77,7 +92,7 @@ module _ (p : Plan) (σ : State) where
   requestTable r =
       needs (r < length (p .routes)) (Refused BadEvent)
       (needs (SignalRed r) (Refused NotRed)
-      (names (Busy (routeOf p r .clear)) (λ u. Refused (Occupied u))
+      (names (Busy (routeOf p r .clear)) (λ u. Refused (Occupied u (trainAt σ u)))
       (names (HeldListed r) (λ q. Refused (Held q))
       (names (Derails r) (λ q. Accident (Derailment q))
       (last (Done (Granted r)))))))
@@ -95,7 +110,7 @@ module _ (p : Plan) (σ : State) where
   enterTable e train =
       needs ((e < length (p .entries)) × (train ≢ noTrain)) (Refused BadEvent)
       (asks (InPlan train) (Refused TrainIn)
-      (names (Busy (entryOf p e .clear)) (λ u. Refused (Occupied u))
+      (names (Busy (entryOf p e .clear)) (λ u. Refused (Occupied u (trainAt σ u)))
       (asks (HasTrain σ (entryOf p e .track)) (Accident (Collision (entryOf p e .track)))
       (last (Done (Entered train (entryOf p e .track)))))))
 

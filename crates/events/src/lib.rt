@@ -15,18 +15,24 @@ pub enum Event {
     Unknown,
 }
 
-// Why an event is refused: one case for each number of the document's table, with what the document names.
+// Why an event is refused: one case for each number of the document's table, with what the document names; 13 names a track and the train on it.
 pub enum Refusal {
     IllFormed,
     BadEvent,
     NotRed,
-    Occupied(usize),
+    Occupied(usize, u8),
     Held(usize),
     NotGreen,
     HomeOccupied(usize),
     TrainIn,
     TrainOut,
     Red(usize),
+}
+
+// What the test of a clear list meets: a track and the train on it, or nobody.
+pub enum Met {
+    Train(usize, u8),
+    Nobody,
 }
 
 // What goes wrong on a bad plan.

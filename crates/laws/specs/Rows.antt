@@ -116,10 +116,11 @@ module _ {A : Type 0} where
   unfolding Gives
   needs-alike i d = record { carries = λ a. either (λ g. (λ s. g .0 (i .1 s), g .1)) (λ g. (i .0 (g .0), d .carries a (g .1))) }
 
-  pub names-alike : {P Q : ℕ → Type 0} {x : ℕ → A} {t v : Table A} → ((n : ℕ) → P n ↔ Q n) → Within A t v → Within A (names P x t) (names Q x v)
+  pub names-alike : {P Q : ℕ → Type 0} {x y : ℕ → A} {t v : Table A} → ((n : ℕ) → P n ↔ Q n) → ((n : ℕ) → P n → x n ≡ y n) → Within A t v
+      → Within A (names P x t) (names Q y v)
   unfolding Gives
-  names-alike i d = record {
+  names-alike i e d = record {
     carries = λ a. either
-        (λ g. (g .0, record { such = i (g .0) .0 (g .1 .such); noLower = λ y h s. g .1 .noLower y h (i y .1 s) }, g .2))
+        (λ g. (g .0, record { such = i (g .0) .0 (g .1 .such); noLower = λ y h s. g .1 .noLower y h (i y .1 s) }, g .2 ∙ e (g .0) (g .1 .such)))
         (λ g. (λ n s. g .0 n (i n .1 s), d .carries a (g .1)));
   }

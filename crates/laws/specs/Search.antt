@@ -126,6 +126,10 @@ unless (At x) f y = f x
 unless Nothing f y = y
 
 -- A chain is walked forwards: each test that was passed is known from there on.
+pub cond-ind : {A : Type 0} (Q : A → Type 0) {x y : A} (b : Bool) → (b ≡ true → Q x) → (b ≡ false → Q y) → Q (cond b x y)
+cond-ind Q true h k = h refl
+cond-ind Q false h k = k refl
+
 pub unless-ind {ℓ κ} : {A : Type ℓ} (Q : A → Type κ) (o : Found) (f : ℕ → A) (y : A) → ((x : ℕ) → o ≡ At x → Q (f x)) → (o ≡ Nothing → Q y) → Q (unless o f y)
 unfolding unless
 unless-ind Q (At x) f y h k = h x refl

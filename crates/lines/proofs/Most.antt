@@ -1,4 +1,5 @@
--- Every line of every answer, verdict and form is at most `lineMost` bytes long.
+-- Every line of every answer, verdict and form is at most `lineMost` bytes long, and by its words that of 13 can be so long.
+use mathlib.Core.Path.{_≡_, refl}
 use mathlib.Core.List.{List, [], _∷_, _++_}
 use Prim.Native.Nat.{ℕ, _+_, _≤_}
 use Prim.Native.String.{String}
@@ -38,7 +39,7 @@ unfolding room answerWords refusalWords harmWords deedWords bytesOf
 words-room (Refused IllFormed) = lit≤ tt
 words-room (Refused BadEvent) = lit≤ tt
 words-room (Refused NotRed) = lit≤ tt
-words-room (Refused (Occupied track)) = lit≤ tt
+words-room (Refused (Occupied track train)) = lit≤ tt
 words-room (Refused (Held point)) = lit≤ tt
 words-room (Refused NotGreen) = lit≤ tt
 words-room (Refused (HomeOccupied track)) = lit≤ tt
@@ -53,6 +54,11 @@ words-room (Done (Cancelled route)) = lit≤ tt
 words-room (Done (Entered train track)) = lit≤ tt
 words-room (Done (Moved train from to)) = lit≤ tt
 words-room (Done (Left train from)) = lit≤ tt
+
+-- no less would do for the words of 13
+needed : (track train : ℕ) → room (answerWords (Refused (Occupied track train))) ≡ lineMost
+unfolding room answerWords refusalWords bytesOf
+needed track train = refl
 
 pub answer-most : (answer : Answer) → length (answerLine answer) ≤ lineMost
 unfolding answerLine

@@ -97,7 +97,7 @@ unfolding All allOf isWord bytesOf answerWords refusalWords harmWords deedWords 
 said (Refused IllFormed) = record { each = (refl, tt); whole = refl }
 said (Refused BadEvent) = record { each = (refl, tt); whole = refl }
 said (Refused NotRed) = record { each = (refl, tt); whole = refl }
-said (Refused (Occupied track)) = record { each = (refl, (refl, tt)); whole = refl }
+said (Refused (Occupied track train)) = record { each = (refl, (refl, (refl, tt))); whole = refl }
 said (Refused (Held point)) = record { each = (refl, (refl, tt)); whole = refl }
 said (Refused NotGreen) = record { each = (refl, tt); whole = refl }
 said (Refused (HomeOccupied track)) = record { each = (refl, (refl, tt)); whole = refl }
@@ -139,7 +139,7 @@ answerOf byte x y z =
   where
     refusal : Refusal
     refusal = firstWith refusalNumber IllFormed
-        (IllFormed ∷ BadEvent ∷ NotRed ∷ Occupied y ∷ Held y ∷ NotGreen ∷ HomeOccupied y ∷ TrainIn ∷ TrainOut ∷ Red y ∷ []) x
+        (IllFormed ∷ BadEvent ∷ NotRed ∷ Occupied y z ∷ Held y ∷ NotGreen ∷ HomeOccupied y ∷ TrainIn ∷ TrainOut ∷ Red y ∷ []) x
 
     harm : Harm
     harm = firstWith harmNumber (Collision y) (Collision y ∷ RunThrough y ∷ Derailment y ∷ []) x
@@ -149,7 +149,7 @@ unfolding firstWith answerOf bytesOf line answerLine answerWords refusalWords ha
 answer-back (Refused IllFormed) = refl
 answer-back (Refused BadEvent) = refl
 answer-back (Refused NotRed) = refl
-answer-back (Refused (Occupied track)) = refl
+answer-back (Refused (Occupied track train)) = refl
 answer-back (Refused (Held point)) = refl
 answer-back (Refused NotGreen) = refl
 answer-back (Refused (HomeOccupied track)) = refl

@@ -18,7 +18,7 @@ unfolding answerLine answerWords tableNumber refusalWords answerValues refusalVa
 bare-line IllFormed k = refl
 bare-line BadEvent k = refl
 bare-line NotRed k = refl
-bare-line (Occupied track) k = absurd (miss (0 ∷ 1 ∷ 2 ∷ 5 ∷ 7 ∷ 8 ∷ []) 3 tt k)
+bare-line (Occupied track train) k = absurd (miss (0 ∷ 1 ∷ 2 ∷ 5 ∷ 7 ∷ 8 ∷ []) 3 tt k)
 bare-line (Held point) k = absurd (miss (0 ∷ 1 ∷ 2 ∷ 5 ∷ 7 ∷ 8 ∷ []) 4 tt k)
 bare-line NotGreen k = refl
 bare-line (HomeOccupied track) k = absurd (miss (0 ∷ 1 ∷ 2 ∷ 5 ∷ 7 ∷ 8 ∷ []) 6 tt k)

@@ -33,13 +33,14 @@ line [] numbers = end
 line (word ∷ words) [] = end
 line (word ∷ words) (n ∷ numbers) = bytesOf word ++ decimal n ++ line words numbers
 
--- The words of an answer, each before its number. 13 and 16 name a track, 14 a point, 19 a signal; 40 and 41 a track, 42 a point.
+-- The words of an answer, each before its number. 13 names a track and the train on it, 16 a track, 14 a point, 19 a signal; 40 and 41 a track, 42 a
+-- point.
 
 unfoldable pub refusalWords : Refusal → List String
 refusalWords IllFormed = []
 refusalWords BadEvent = []
 refusalWords NotRed = []
-refusalWords (Occupied track) = " track " ∷ []
+refusalWords (Occupied track train) = " track " ∷ " train " ∷ []
 refusalWords (Held point) = " point " ∷ []
 refusalWords NotGreen = []
 refusalWords (HomeOccupied track) = " track " ∷ []
@@ -80,6 +81,6 @@ verdictLine (Broken rule row) = line ("rule " ∷ " row " ∷ []) (rule ∷ row 
 unfoldable pub formLine : Form → List ℕ
 formLine form = line ("form " ∷ " at " ∷ []) (formNumber form ∷ formOffset form ∷ [])
 
--- the longest line, whatever its values: `moved `, ` from ` and ` to `, each with a number, and the end
+-- the longest line, whatever its numbers: `refused `, ` track ` and ` train `, each with a number, and the end
 abbrev pub lineMost : ℕ
-lineMost = 6 + numberMost + (6 + numberMost + (4 + numberMost + 1))
+lineMost = 8 + numberMost + (7 + numberMost + (7 + numberMost + 1))

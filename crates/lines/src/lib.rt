@@ -27,7 +27,7 @@ pub mod numbers;
 mod text;
 
 // The room that any line may need, as specs/Lines.antt has it: `line_most` ties the two.
-pub const LINE: usize = 77;
+pub const LINE: usize = 83;
 
 pub fn line_most() -> usize
     ensures { λ r. ⌜ r ≡ lineMost ⌝ }
@@ -35,14 +35,16 @@ pub fn line_most() -> usize
     LINE
 }
 
-// A refusal: 13 and 16 name a track, 14 a point, 19 a signal.
+// A refusal: 13 names a track and the train on it, 16 a track, 14 a point, 19 a signal.
 fn refusal_line(refusal: Refusal, out: &mut [u8], at: usize) -> usize
     requires { ⌜ at + lineMost ≤ length (now out) ⌝ }
     ensures { λ r. ⌜ Wrote (answerLine (Refused refusal)) (now (out .entry)) at (now (out .exit)) r ⌝ }
 {
     let next = put_number(b"refused ", refusal_number(refusal), out, at);
     match refusal {
-        Refusal::Occupied(track) => line_of_one(b" track ", track, out, next),
+        Refusal::Occupied(track, train) => {
+            line_of_two(b" track ", track, b" train ", wide(train), out, next)
+        }
         Refusal::Held(point) => line_of_one(b" point ", point, out, next),
         Refusal::HomeOccupied(track) => line_of_one(b" track ", track, out, next),
         Refusal::Red(signal) => line_of_one(b" signal ", signal, out, next),

@@ -13,7 +13,7 @@ pub fn refusal_number(refusal: Refusal) -> usize
         Refusal::IllFormed => 10,
         Refusal::BadEvent => 11,
         Refusal::NotRed => 12,
-        Refusal::Occupied(_) => 13,
+        Refusal::Occupied(_, _) => 13,
         Refusal::Held(_) => 14,
         Refusal::NotGreen => 15,
         Refusal::HomeOccupied(_) => 16,

@@ -1,6 +1,7 @@
 //! Counting what the cases have reached, so that nothing goes untried unnoticed.
 
 use super::calls::{self, Kind, Kinds};
+use super::dropped::{self, Tried};
 use super::flaws::{self, FLAWS};
 use super::images;
 use super::rarest::{self, Spread};
@@ -58,6 +59,8 @@ pub struct Counts {
     pub pairs: [u64; ANSWERS],
     /// Calls that do all or nothing, loads and writes among them.
     pub calls: Kinds,
+    /// What was held against document 01.
+    pub tried: Tried,
 }
 
 impl Default for Counts {
@@ -77,6 +80,7 @@ impl Default for Counts {
             flaws: vec![0; FLAWS.len()],
             pairs: [0; ANSWERS],
             calls: Kinds::new(),
+            tried: dropped::NONE,
         }
     }
 }

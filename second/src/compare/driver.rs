@@ -1,6 +1,7 @@
 //! Case after case until there are enough plans and events, or until the first mismatch.
 
 use super::counts::Counts;
+use super::dropped::{self, Tried};
 use super::shrink::shrink;
 use super::trouble::{trouble, works, Sides, Trouble, Work};
 use super::{describe, minima};
@@ -66,10 +67,15 @@ impl Mismatch {
     }
 }
 
-/// Compares one case, made from this seed.
-pub fn try_case(subject: &dyn Subject, seed: u64, case: &Case) -> Option<Mismatch> {
+/// Compares one case, made from this seed. What was held against document 01 is counted.
+pub fn try_case(
+    subject: &dyn Subject,
+    seed: u64,
+    case: &Case,
+    tried: &mut Tried,
+) -> Option<Mismatch> {
     let mut sides = Sides::new(subject, &case.plan);
-    works(case).into_iter().find_map(|work| {
+    let mismatch = works(case).into_iter().find_map(|work| {
         let trouble = sides.trouble(&work)?;
         Some(Mismatch {
             seed,
@@ -77,7 +83,11 @@ pub fn try_case(subject: &dyn Subject, seed: u64, case: &Case) -> Option<Mismatc
             work,
             trouble,
         })
-    })
+    });
+    for (sum, count) in tried.iter_mut().zip(sides.dropped.tried) {
+        *sum += count;
+    }
+    mismatch
 }
 
 /// Compares and prints. True if nothing is wrong and nothing was missed.
@@ -91,7 +101,7 @@ pub fn compare(subject: &dyn Subject, search: &Search) -> bool {
         }
         let case = case(seed);
         counts.observe(&case);
-        if let Some(mismatch) = try_case(subject, seed, &case) {
+        if let Some(mismatch) = try_case(subject, seed, &case, &mut counts.tried) {
             print_mismatch(subject, &mismatch);
             return false;
         }
@@ -108,14 +118,14 @@ pub fn hunt(subject: &dyn Subject, seed: u64, most: usize) -> Option<(usize, Mis
     let mut seeds = Random::new(seed);
     (1..=most).find_map(|number| {
         let seed = seeds.word();
-        let mismatch = try_case(subject, seed, &case(seed))?;
+        let mismatch = try_case(subject, seed, &case(seed), &mut dropped::NONE.clone())?;
         Some((number, mismatch))
     })
 }
 
 /// Compares the one case of a seed that was printed before.
 pub fn repeat(subject: &dyn Subject, seed: u64) -> bool {
-    let mismatch = try_case(subject, seed, &case(seed));
+    let mismatch = try_case(subject, seed, &case(seed), &mut dropped::NONE.clone());
     if let Some(mismatch) = &mismatch {
         print_mismatch(subject, mismatch);
     }

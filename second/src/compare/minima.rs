@@ -2,6 +2,7 @@
 
 use super::calls;
 use super::counts::{Counts, CANCELLED, ENTERED, EVENT_KINDS, GRANTED, LEFT, MOVED};
+use super::dropped::HELD;
 use super::flaws::FLAWS;
 use super::images;
 use super::rarest;
@@ -51,6 +52,7 @@ pub fn report(counts: &Counts) -> Vec<String> {
     lines.extend(named_lines(FLAWS, &counts.flaws));
     lines.extend(pair_lines(counts));
     lines.extend(call_lines(counts));
+    lines.extend(named_lines(HELD, &counts.tried));
     println!("{:>10} plans", counts.plans);
     println!("{:>10} events", counts.events);
     for line in &lines {

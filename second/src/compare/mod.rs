@@ -5,6 +5,7 @@ pub mod causes;
 pub mod counts;
 pub mod describe;
 pub mod driver;
+pub mod dropped;
 pub mod files;
 mod flaws;
 pub mod history;

@@ -1,6 +1,7 @@
 //! How often each length of a list came with the only hit at its last place, where a walk that ends
-//! too early shows, and how often each number of a route and of an entry came with 13, 14 and 42. A
-//! box can be wrong for one of them alone, so that the rarest one must have come often enough.
+//! too early shows, how often each number of a route and of an entry came with 13, 14 and 42, and how
+//! often 13 named each train and each track. A box can be wrong for one of them alone, so that the
+//! rarest one must have come often enough.
 
 use super::special::kinds_in_words;
 use crate::model::answer::{Accident, Answer, Refusal};
@@ -21,22 +22,29 @@ kinds_in_words! { Family, FAMILIES:
     RefusedEntry "13 for an entry: for entry #, the rarest one",
     HeldRoute "14: for route #, the rarest one",
     DerailedRoute "42: for route #, the rarest one",
+    TrainOfRequest "13 for a request: train #, the rarest one",
+    TrainOfEntry "13 for an entry: train #, the rarest one",
+    TrackOfRequest "13 for a request: track #, the rarest one",
+    TrackOfEntry "13 for an entry: track #, the rarest one",
 }
 
 const TRACKS: RangeInclusive<usize> = 1..=*plan::CLEAR.end();
 const POINTS: RangeInclusive<usize> = 1..=*plan::POINTS.end();
 const ROUTES: RangeInclusive<usize> = 0..=*plan::ROUTES.end() - 1;
 const ENTRIES: RangeInclusive<usize> = 0..=*plan::ENTRIES.end() - 1;
+const TRAINS: RangeInclusive<usize> = 1..=u8::MAX as usize;
+const NAMED: RangeInclusive<usize> = 0..=plan::MOST_TRACKS - 1;
 
 /// The lengths or the numbers of each family.
 const MEMBERS: [RangeInclusive<usize>; FAMILIES.len()] = [
-    TRACKS, TRACKS, POINTS, POINTS, POINTS, POINTS, ROUTES, ENTRIES, ROUTES, ROUTES,
+    TRACKS, TRACKS, POINTS, POINTS, POINTS, POINTS, ROUTES, ENTRIES, ROUTES, ROUTES, TRAINS,
+    TRAINS, NAMED, NAMED,
 ];
 
-/// By family and member. No family has one above the longest list.
-pub type Spread = [[u64; *TRACKS.end() + 1]; FAMILIES.len()];
+/// By family and member. No family has one above the highest train.
+pub type Spread = [[u64; *TRAINS.end() + 1]; FAMILIES.len()];
 
-pub const NONE: Spread = [[0; *TRACKS.end() + 1]; FAMILIES.len()];
+pub static NONE: Spread = [[0; *TRAINS.end() + 1]; FAMILIES.len()];
 
 /// Each family, with its rarest member named and counted.
 pub fn of_each(spread: &Spread) -> impl Iterator<Item = (String, u64)> + '_ {
@@ -53,14 +61,18 @@ pub fn of_answer(plan: &Plan, before: &State, event: &[u8], answer: &Answer, spr
     let mut note = |family: Family, member: usize| spread[family as usize][member] += 1;
     let number = event.get(1).map_or(0, |&byte| usize::from(byte));
     match *answer {
-        Answer::Refused(Refusal::TrainInTheWay { track }) if event[0] == 3 => {
+        Answer::Refused(Refusal::TrainInTheWay { track, train }) if event[0] == 3 => {
             note(Family::RefusedEntry, number);
+            note(Family::TrainOfEntry, train.into());
+            note(Family::TrackOfEntry, track);
             of_list(&plan.entries[number].clear, track, |length| {
                 note(Family::ClearOfEntry, length);
             });
         }
-        Answer::Refused(Refusal::TrainInTheWay { track }) => {
+        Answer::Refused(Refusal::TrainInTheWay { track, train }) => {
             note(Family::RefusedRoute, number);
+            note(Family::TrainOfRequest, train.into());
+            note(Family::TrackOfRequest, track);
             of_list(&plan.routes[number].clear, track, |length| {
                 note(Family::ClearOfRequest, length);
             });

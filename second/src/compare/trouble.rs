@@ -1,6 +1,7 @@
 //! One piece of work given to the model and to a subject: do they agree?
 
 use super::describe::{self, state};
+use super::dropped::{Dropped, Due};
 use super::files;
 use super::history::{self, Told};
 use crate::book::MODEL;
@@ -9,6 +10,7 @@ use crate::generate::events::Event;
 use crate::generate::images::Writing;
 use crate::generate::lists::List;
 use crate::generate::pieces::Pieces;
+use crate::model::answer::Verdict;
 use crate::model::image::IMAGE_SIZE;
 use crate::model::reading::Form;
 use crate::model::state::Arrays;
@@ -87,6 +89,8 @@ pub struct Sides<'a> {
     ready_subject: Box<dyn Prepared + 'a>,
     /// The plan's image, once it has been asked for; nothing but 0 if there is no plan.
     image: Option<Box<Fenced>>,
+    /// What document 01 says, to which no train is known in 13.
+    pub dropped: Dropped,
 }
 
 impl<'a> Sides<'a> {
@@ -97,6 +101,7 @@ impl<'a> Sides<'a> {
             ready_model: MODEL.prepare(plan),
             ready_subject: subject.prepare(plan),
             image: None,
+            dropped: Dropped::new(plan),
         }
     }
 
@@ -110,15 +115,11 @@ impl<'a> Sides<'a> {
             }
             Work::Run(events) => self.run(events),
             Work::Step(arrays, event) => self.step(arrays, event),
-            Work::Agreement(pair) => {
-                outside(history::check_agreement(self.ready_subject.as_mut(), pair))
-            }
+            Work::Agreement(pair) => self.agreement(pair),
             Work::List(list) => self.list(list),
             Work::Pieces(session) => self.pieces(session),
             Work::Fresh(memory) => self.fresh(memory),
-            Work::Open(room) => self
-                .lent(&mut Kept::fresh(), |ready, _| ready.open(*room))
-                .err(),
+            Work::Open(room) => self.open(*room).err(),
             Work::Load(fill) => files::load(self.subject, self.plan, *fill).err(),
             Work::Write(writing) => self.write(writing),
         }
@@ -151,32 +152,69 @@ impl<'a> Sides<'a> {
         let lines = self.subject.run(self.plan, events);
         let verdict = self.ready_subject.check();
         let story = history::play(self.ready_subject.as_mut(), events);
-        let finding = history::check(self.plan, events, verdict, &lines, &story);
+        let plan = self.dropped.plan();
+        let finding = history::check(plan, events, verdict, &lines, &story);
         outside(finding).or_else(|| {
+            let expected_story = history::play(self.ready_model.as_mut(), events);
+            let codes = &self.dropped.codes_of(events, &expected_story);
+            let due = Due { events, codes };
+            if let Err(trouble) = self.without_trains(due, verdict, &lines, &story) {
+                return Some(trouble);
+            }
             let expected = MODEL.run(self.plan, events);
             if expected != lines {
                 return Some(first_difference(&expected, &lines));
             }
-            let expected = history::play(self.ready_model.as_mut(), events);
-            let mut pairs = expected.iter().zip(&story);
+            let mut pairs = expected_story.iter().zip(&story);
             let single = pairs.find_map(|(expected, told)| difference(expected, told));
-            single.or_else(|| self.at_once(&Arrays::fresh(), events, events.len().div_ceil(EVENT)))
+            let room = events.len().div_ceil(EVENT);
+            single.or_else(|| self.at_once(&Arrays::fresh(), due, room))
         })
+    }
+
+    /// With the train of 13 dropped, the lines of a whole run and its answers are document 01's.
+    fn without_trains(
+        &mut self,
+        due: Due,
+        verdict: Verdict,
+        lines: &[u8],
+        story: &[Told],
+    ) -> Result<(), Trouble> {
+        let lines = self.dropped.opening(verdict, lines)?;
+        if self.dropped.plan().is_some() {
+            self.dropped.lines(due, lines)?;
+        }
+        let answers = story.iter().map(|told| &told.answer);
+        self.dropped.answers(due, answers)
+    }
+
+    fn open(&mut self, room: usize) -> Result<(), Trouble> {
+        let verdict = self.ready_model.check();
+        let call = |ready: &mut dyn Prepared, _: &mut Kept| ready.open(room);
+        self.lent(&mut Kept::fresh(), call, |dropped, line| {
+            dropped.opening(verdict, &line.bytes()).map(|_| ())
+        })?;
+        Ok(())
     }
 
     fn list(&mut self, list: &List) -> Option<Trouble> {
         let (from, events) = (&list.from, &list.events);
         let left_over = events.chunks_exact(EVENT).remainder();
-        self.at_once(from, events, list.room)
+        let codes = &self.dropped.codes(from, events);
+        self.at_once(from, Due { events, codes }, list.room)
             .or_else(|| self.step(from, events))
             .or_else(|| self.step(from, left_over))
     }
 
     /// Events at once: their answers and the state after the last.
-    fn at_once(&mut self, from: &Arrays, events: &[u8], room: usize) -> Option<Trouble> {
+    fn at_once(&mut self, from: &Arrays, due: Due, room: usize) -> Option<Trouble> {
+        let events = due.events;
         let mut kept = Kept::of(from.clone());
-        self.lent(&mut kept, |ready, kept| ready.run(kept, events, room))
-            .err()
+        let call = |ready: &mut dyn Prepared, kept: &mut Kept| ready.run(kept, events, room);
+        let is_done = self.lent(&mut kept, call, |dropped, answers| {
+            dropped.answers(due, answers.cells.iter().flatten())
+        });
+        is_done.err()
     }
 
     fn fresh(&self, memory: &Kept) -> Option<Trouble> {
@@ -194,43 +232,63 @@ impl<'a> Sides<'a> {
     /// end nothing is unfinished, so that another end needs no room at all.
     fn session(&mut self, session: &Pieces) -> Result<(), Trouble> {
         let mut kept = session.from.clone();
+        let mut events = kept.begun().unwrap_or_default().to_vec();
+        events.extend(session.pieces.iter().flat_map(|piece| &piece.bytes));
+        let codes = self.dropped.codes(&kept.state, &events);
+        let mut due = Due {
+            events: &events,
+            codes: &codes,
+        };
         for piece in &session.pieces {
             let begun = kept.begun().map_or(0, <[u8]>::len);
-            let needed = (begun + piece.bytes.len()) / EVENT * LINE;
-            self.until_done(&mut kept, [piece.room, needed], |ready, kept, room| {
+            let whole = (begun + piece.bytes.len()) / EVENT;
+            let rooms = [piece.room, whole * LINE];
+            let (first, rest) = due.split_at(whole);
+            let is_done = self.until_done(&mut kept, rooms, first, |ready, kept, room| {
                 ready.feed(kept, &piece.bytes, room)
             })?;
+            if is_done {
+                due = rest;
+            }
         }
-        for rooms in [[session.ending, LINE], [0, 0]] {
-            self.until_done(&mut kept, rooms, |ready, kept, room| {
+        for (rooms, due) in [([session.ending, LINE], due), ([0, 0], Due::default())] {
+            self.until_done(&mut kept, rooms, due, |ready, kept, room| {
                 ready.finish(kept, room)
             })?;
         }
         Ok(())
     }
 
-    /// A call with one room and, if that was too little, with the other.
+    /// A call with one room and, if that was too little, with the other. True if it was done then; these
+    /// are the events that have a line in it.
     fn until_done(
         &mut self,
         kept: &mut Kept,
         rooms: [usize; 2],
+        due: Due,
         call: impl Fn(&mut dyn Prepared, &mut Kept, usize) -> Lent<u8>,
-    ) -> Result<(), Trouble> {
+    ) -> Result<bool, Trouble> {
+        let mut reason = None;
         for room in rooms {
-            let reason = self.lent(kept, |ready, kept| call(ready, kept, room))?;
+            let call = |ready: &mut dyn Prepared, kept: &mut Kept| call(ready, kept, room);
+            reason = self.lent(kept, call, |dropped, lines| {
+                dropped.lines(due, &lines.bytes())
+            })?;
             if reason != Some(Reason::NoRoom) {
                 break;
             }
         }
-        Ok(())
+        Ok(reason.is_none())
     }
 
     /// A call that writes into lent memory: what it says, what it writes and what it leaves alone,
-    /// how much it says it wrote, and what is kept after it. Hands back why it did nothing, if so.
+    /// how much it says it wrote, and what is kept after it. Where it is done, what the subject wrote is
+    /// held against document 01 first. Hands back why it did nothing, if so.
     fn lent<T: PartialEq + Display>(
         &mut self,
         kept: &mut Kept,
         call: impl Fn(&mut dyn Prepared, &mut Kept) -> Lent<T>,
+        without_trains: impl FnOnce(&mut Dropped, &Lent<T>) -> Result<(), Trouble>,
     ) -> Result<Option<Reason>, Trouble> {
         let mut after = kept.clone();
         let expected = call(self.ready_model.as_mut(), kept);
@@ -241,6 +299,9 @@ impl<'a> Sides<'a> {
                 None => "all of it done".to_string(),
             };
             return Err(Trouble::new(words(expected.reason), words(found.reason)));
+        }
+        if expected.reason.is_none() {
+            without_trains(&mut self.dropped, &found)?;
         }
         let mut cells = expected.cells.iter().zip(&found.cells).enumerate();
         if let Some((at, (one, other))) = cells.find(|(_, (one, other))| one != other) {
@@ -257,6 +318,15 @@ impl<'a> Sides<'a> {
         Ok(expected.reason)
     }
 
+    /// From outside first; then each of the two steps by itself.
+    fn agreement(&mut self, pair: &Pair) -> Option<Trouble> {
+        let event = &[1, pair.route, 0];
+        let finding = history::check_agreement(self.ready_subject.as_mut(), pair);
+        outside(finding)
+            .or_else(|| self.step(&pair.one, event))
+            .or_else(|| self.step(&pair.other, event))
+    }
+
     fn step(&mut self, arrays: &Arrays, event: &[u8]) -> Option<Trouble> {
         let told = |ready: &mut dyn Prepared| {
             let mut after = arrays.clone();
@@ -265,7 +335,11 @@ impl<'a> Sides<'a> {
         };
         let expected = told(self.ready_model.as_mut());
         let found = told(self.ready_subject.as_mut());
-        difference(&expected, &found)
+        let without_train = self
+            .dropped
+            .answer(arrays, event, &expected.answer, &found.answer);
+        let without_train = without_train.err();
+        without_train.or_else(|| difference(&expected, &found))
     }
 }
 

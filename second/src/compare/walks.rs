@@ -1,6 +1,6 @@
 //! Where in a list the tests behind 13, 14 and 42 find what they look for. They walk lists, and a walk
 //! goes wrong at its ends, at an empty list and where a number is taken for its place, so that each of
-//! these must have been reached.
+//! these must have been reached; and so must be what tells the train that 13 names from every other.
 
 use super::special::kinds_in_words;
 use crate::model::answer::{Accident, Answer, Refusal};
@@ -64,13 +64,30 @@ kinds_in_words! { Turn, TURNS:
     LowerKept "a lower listed point with a train keeps its lie",
 }
 
+// Which train 13 names, among those in the way and elsewhere.
+kinds_in_words! { Named, NAMED:
+    LowestOfSeveral "of several trains in the way the lowest is named",
+    HighestOfSeveral "of several trains in the way the highest is named",
+    BetweenOthers "the train named is neither the lowest nor the highest of those in the way",
+    OtherOnZero "track 0 has another train and is not named",
+    NotItsTrack "the train's number is not the track's",
+    OfAnotherTrack "the train's number is that of another track of the list with a train",
+    OtherOnItsOwn "the route's home, or the entry's own track, has another train",
+    BelowTen "a train below 10",
+    BelowHundred "a train from 10 to 99",
+    FromHundred "a train above 99",
+    AboveHalf "a train above 127",
+    VeryLast "train 255",
+}
+
 const ASKING: [&str; 2] = ["13 for a request", "13 for an entry"];
 const TESTS: [&str; 2] = ["14", "42"];
 
 /// Where each group of kinds begins among the counts.
 const POINTS_FROM: usize = 2 * CLEARS.len();
 const TURNS_FROM: usize = POINTS_FROM + 2 * POINTS.len();
-pub const KINDS: usize = TURNS_FROM + TURNS.len();
+const NAMED_FROM: usize = TURNS_FROM + TURNS.len();
+pub const KINDS: usize = NAMED_FROM + 2 * NAMED.len();
 
 /// The name of each count.
 pub fn names() -> Vec<String> {
@@ -80,7 +97,7 @@ pub fn names() -> Vec<String> {
     };
     let turns = TURNS.iter().map(|kind| format!("42: {kind}"));
     let names = each(ASKING, CLEARS).chain(each(TESTS, POINTS));
-    names.chain(turns).collect()
+    names.chain(turns).chain(each(ASKING, NAMED)).collect()
 }
 
 /// Which of the two asks for a clear list.
@@ -106,15 +123,24 @@ pub fn of_answer(plan: &Plan, before: &State, event: &[u8], answer: &Answer, cou
     }
     match event[0] {
         3 => {
-            let clear = &plan.entries[number].clear;
-            of_clear(before, plan, clear, answer, |kind| {
+            let entry = &plan.entries[number];
+            of_clear(before, plan, &entry.clear, answer, |kind| {
                 counts[2 * kind as usize + Asking::Entry as usize] += 1;
+            });
+            let named = &mut counts[NAMED_FROM..];
+            of_named(before, &entry.clear, entry.track, answer, |kind| {
+                named[2 * kind as usize + Asking::Entry as usize] += 1;
             });
         }
         _ => {
             let route = &plan.routes[number];
             of_clear(before, plan, &route.clear, answer, |kind| {
                 counts[2 * kind as usize + Asking::Request as usize] += 1;
+            });
+            let named = &mut counts[NAMED_FROM..];
+            let home = plan.home_of(route);
+            of_named(before, &route.clear, home, answer, |kind| {
+                named[2 * kind as usize + Asking::Request as usize] += 1;
             });
             let points = &mut counts[POINTS_FROM..];
             of_held(before, route, answer, |kind| {
@@ -147,7 +173,7 @@ fn of_clear(
     mut note: impl FnMut(Clear),
 ) {
     let is_all = clear.len() == plan.tracks.len() && clear.len() > 1;
-    let Answer::Refused(Refusal::TrainInTheWay { track }) = *answer else {
+    let Answer::Refused(Refusal::TrainInTheWay { track, .. }) = *answer else {
         if clear.is_empty() && before.trains.iter().any(Option::is_some) {
             note(Clear::Empty);
         }
@@ -201,6 +227,43 @@ fn of_clear(
             _ => {}
         }
     }
+}
+
+/// Which train 13 names. `own` is the home of the route, or the track of the entry.
+fn of_named(
+    before: &State,
+    clear: &[usize],
+    own: usize,
+    answer: &Answer,
+    mut note: impl FnMut(Named),
+) {
+    let Answer::Refused(Refusal::TrainInTheWay { track, train }) = *answer else {
+        return;
+    };
+    let in_the_way = || clear.iter().filter_map(|&listed| before.trains[listed]);
+    let is_above = in_the_way().any(|other| other < train);
+    let is_below = in_the_way().any(|other| other > train);
+    let is_other = |other: usize| before.trains[other].is_some_and(|other| other != train);
+    let of_train = usize::from(train);
+    let is_of_another =
+        of_train != track && place_of(clear, of_train).is_some_and(|_| is_other(of_train));
+    let is = [
+        (is_below && !is_above, Named::LowestOfSeveral),
+        (is_above && !is_below, Named::HighestOfSeveral),
+        (is_above && is_below, Named::BetweenOthers),
+        (is_other(0), Named::OtherOnZero),
+        (of_train != track, Named::NotItsTrack),
+        (is_of_another, Named::OfAnotherTrack),
+        (is_other(own), Named::OtherOnItsOwn),
+        (train < 10, Named::BelowTen),
+        ((10..100).contains(&train), Named::BelowHundred),
+        (train >= 100, Named::FromHundred),
+        (train > 127, Named::AboveHalf),
+        (train == u8::MAX, Named::VeryLast),
+    ];
+    is.into_iter()
+        .filter(|(holds, _)| *holds)
+        .for_each(|(_, kind)| note(kind));
 }
 
 /// Lists rise.

@@ -171,23 +171,23 @@ fn other_names() -> Vec<Definition> {
             "entry: 13 names the highest track",
             |plan, state, event| match (step(plan, state, event), event[0]) {
                 (Answer::Refused(Refusal::TrainInTheWay { .. }), 3) => {
-                    let clear = plan.entries[requested(event)].clear.iter();
-                    let mut occupied = clear.filter(|&&track| state.trains[track].is_some());
-                    let track = *occupied.next_back().expect("one has a train");
-                    Answer::Refused(Refusal::TrainInTheWay { track })
+                    let from_last = plan.entries[requested(event)].clear.iter().rev();
+                    let mut occupied =
+                        from_last.filter_map(|&track| Some((track, state.trains[track]?)));
+                    Answer::in_the_way(occupied.next().expect("one has a train"))
                 }
                 (answer, _) => answer,
             },
         ),
-        steps("13 names the train", |plan, state, event| {
-            match step(plan, state, event) {
-                Answer::Refused(Refusal::TrainInTheWay { track }) => {
-                    let track = state.trains[track].map_or(0, usize::from);
-                    Answer::Refused(Refusal::TrainInTheWay { track })
+        steps(
+            "13 names the train as its track too",
+            |plan, state, event| match step(plan, state, event) {
+                Answer::Refused(Refusal::TrainInTheWay { train, .. }) => {
+                    Answer::in_the_way((usize::from(train), train))
                 }
                 answer => answer,
-            }
-        }),
+            },
+        ),
         steps(
             "14 names the highest point",
             |plan, state, event| match step(plan, state, event) {

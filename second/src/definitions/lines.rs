@@ -166,6 +166,49 @@ fn swapped(name: &str, first: &'static str, one: usize, other: usize) -> Definit
     })
 }
 
+/// The words of 13's lines, changed.
+fn of_13(name: &str, change: fn(&mut Vec<String>)) -> Definition {
+    each_line(name.to_string(), move |words| {
+        if is_answer(words) && words[1] == "13" {
+            change(words);
+        }
+    })
+}
+
+/// What could be read into `refused 13 track 2 train 1`.
+fn wrong_lines_of_13() -> Vec<Definition> {
+    vec![
+        of_13("13 names no train", |words| words.truncate(4)),
+        of_13("13 names no train, but has its word", |words| {
+            words.truncate(5)
+        }),
+        of_13("13 names no track", |words| {
+            words.drain(2..4);
+        }),
+        of_13("13 names its train as a track", |words| {
+            words[4] = "track".to_string()
+        }),
+        of_13("13 names its train without a word", |words| {
+            words.remove(4);
+        }),
+        of_13("13 has its train before its track", |words| {
+            words[2..].rotate_left(2)
+        }),
+        of_13("13 has its two numbers the other way round", |words| {
+            words.swap(3, 5)
+        }),
+        of_13("13 names trains from 0", |words| {
+            let train: u32 = words[5].parse().expect("a train is a number");
+            words[5] = (train - 1).to_string();
+        }),
+        each_line("16 names its train too".to_string(), |words| {
+            if is_answer(words) && words[1] == "16" {
+                words.extend(["train", "1"].map(str::to_string));
+            }
+        }),
+    ]
+}
+
 fn wrong_items() -> Vec<Definition> {
     let mut all = Vec::new();
     for (answer, others) in [
@@ -179,6 +222,7 @@ fn wrong_items() -> Vec<Definition> {
     ] {
         all.extend(others.map(|word| item_of(answer, word)));
     }
+    all.extend(wrong_lines_of_13());
     all.push(swapped(
         "`entered` has its track before its train",
         "entered",

@@ -77,8 +77,7 @@ fn not_red(plan: &Plan, state: &State, event: &[u8]) -> Option<Answer> {
 
 fn train(plan: &Plan, state: &State, event: &[u8]) -> Option<Answer> {
     let (_, route) = route(plan, event, 1)?;
-    let track = state.first_train_on(&route.clear)?;
-    Some(Answer::Refused(Refusal::TrainInTheWay { track }))
+    state.first_train_on(&route.clear).map(Answer::in_the_way)
 }
 
 fn held(plan: &Plan, state: &State, event: &[u8]) -> Option<Answer> {
@@ -120,8 +119,7 @@ fn not_clear(plan: &Plan, state: &State, event: &[u8]) -> Option<Answer> {
     match *event {
         [3, entry, _] => {
             let entry = plan.entries.get(usize::from(entry))?;
-            let track = state.first_train_on(&entry.clear)?;
-            Some(Answer::Refused(Refusal::TrainInTheWay { track }))
+            state.first_train_on(&entry.clear).map(Answer::in_the_way)
         }
         _ => None,
     }

@@ -173,12 +173,12 @@ pub fn walk(random: &mut Random, plan: &Plan) -> Option<(State, Event)> {
 fn entering(random: &mut Random, plan: &Plan) -> Option<(State, Event)> {
     let number = random.below(plan.entries.len());
     let clear = &plan.entries.get(number)?.clear;
-    let mut state = beside(random, plan, clear, &[]);
+    let numbers = Numbers::any(random);
+    let mut state = beside(random, plan, clear, &[], numbers);
     for track in hits(random, clear) {
-        place_train(&mut state, track);
+        numbers.place(&mut state, track);
     }
-    // Trains have the numbers of their tracks, from 1, so that this one is new.
-    Some((state, [3, number as u8, u8::MAX]))
+    Some((state, [3, number as u8, numbers.new_one(random)]))
 }
 
 /// Mostly the number of a route that has what is asked for, if there is one.
@@ -213,12 +213,13 @@ fn requesting(random: &mut Random, plan: &Plan) -> Option<(State, Event)> {
     let number = number_of(random, plan, has_it);
     let route = plan.routes.get(number)?;
     let listed: Vec<usize> = route.listed().collect();
-    let mut state = beside(random, plan, &route.clear, &listed);
+    let numbers = Numbers::any(random);
+    let mut state = beside(random, plan, &route.clear, &listed, numbers);
     state.signals[route.start] = None;
     match test {
         13 => {
             for track in hits(random, &route.clear) {
-                place_train(&mut state, track);
+                numbers.place(&mut state, track);
             }
         }
         14 => {
@@ -226,13 +227,19 @@ fn requesting(random: &mut Random, plan: &Plan) -> Option<(State, Event)> {
                 state.holds[point].insert(random.below(plan.routes.len()));
             }
         }
-        _ => place_under_trains(random, route, &mut state),
+        _ => place_under_trains(random, route, &mut state, numbers),
     }
     Some((state, [1, number as u8, 0]))
 }
 
 /// Trains and holds that the lists leave out, with lies anyhow.
-fn beside(random: &mut Random, plan: &Plan, clear: &[usize], listed: &[usize]) -> State {
+fn beside(
+    random: &mut Random,
+    plan: &Plan,
+    clear: &[usize],
+    listed: &[usize],
+    numbers: Numbers,
+) -> State {
     let mut state = State::fresh(plan);
     let share = [0, 10, 50, 100][random.below(4)];
     for track in 0..plan.tracks.len() {
@@ -242,7 +249,7 @@ fn beside(random: &mut Random, plan: &Plan, clear: &[usize], listed: &[usize]) -
         }
         let is_listed = listed.contains(&track);
         if !clear.contains(&track) && !is_listed && random.chance(share) {
-            place_train(&mut state, track);
+            numbers.place(&mut state, track);
         }
         if is_point && !is_listed && !plan.routes.is_empty() && random.chance(share) {
             state.holds[track].insert(random.below(plan.routes.len()));
@@ -251,9 +258,36 @@ fn beside(random: &mut Random, plan: &Plan, clear: &[usize], listed: &[usize]) -
     state
 }
 
-/// The train of a track, so that none appears twice.
-fn place_train(state: &mut State, track: usize) {
-    state.trains[track] = Some(track as u8 + 1);
+/// Which train stands on which track, so that none appears twice and every number comes on every one.
+#[derive(Clone, Copy)]
+struct Numbers {
+    first: usize,
+    /// From the train of a track to that of the next.
+    by: usize,
+}
+
+impl Numbers {
+    const COUNT: usize = u8::MAX as usize;
+
+    fn any(random: &mut Random) -> Self {
+        // They rise, fall or jump. None shares a divisor with 255, so that each comes to all numbers.
+        let by = [1, 254, 2, 127, 7, 38, 91, 202][random.below(8)];
+        let first = random.below(Self::COUNT);
+        Numbers { first, by }
+    }
+
+    fn train(&self, track: usize) -> u8 {
+        1 + ((self.first + track * self.by) % Self::COUNT) as u8
+    }
+
+    fn place(&self, state: &mut State, track: usize) {
+        state.trains[track] = Some(self.train(track));
+    }
+
+    /// A train that no track has.
+    fn new_one(&self, random: &mut Random) -> u8 {
+        self.train(random.between(plan::MOST_TRACKS, Self::COUNT - 1))
+    }
 }
 
 /// Places of a list where something is found, none at times.
@@ -285,7 +319,7 @@ fn hits_of_both(random: &mut Random, route: &Route) -> Vec<usize> {
 
 /// Trains on listed points, which would turn under them or keep their lie. Those of the clear list
 /// stay free, so that 13 does not come before 42.
-fn place_under_trains(random: &mut Random, route: &Route, state: &mut State) {
+fn place_under_trains(random: &mut Random, route: &Route, state: &mut State, numbers: Numbers) {
     let hits = hits_of_both(random, route);
     for point in route.listed().filter(|point| !route.clear.contains(point)) {
         let is_hit = hits.contains(&point);
@@ -294,7 +328,7 @@ fn place_under_trains(random: &mut Random, route: &Route, state: &mut State) {
             state.lies[point] = other(in_the_end);
         }
         if is_hit || random.chance(20) {
-            place_train(state, point);
+            numbers.place(state, point);
             if !is_hit {
                 state.lies[point] = in_the_end;
             }

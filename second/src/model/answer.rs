@@ -41,7 +41,7 @@ pub enum Refusal {
     NotWellFormed,
     BadEvent,
     SignalNotRed,
-    TrainInTheWay { track: usize },
+    TrainInTheWay { track: usize, train: u8 },
     PointHeld { point: usize },
     SignalNotGreen,
     TrainAtHome { track: usize },
@@ -86,6 +86,11 @@ impl Accident {
 }
 
 impl Answer {
+    /// 13, for a track and the train on it.
+    pub fn in_the_way((track, train): (usize, u8)) -> Self {
+        Answer::Refused(Refusal::TrainInTheWay { track, train })
+    }
+
     /// True if the event was carried out; every other answer changes nothing at all.
     pub fn is_carried_out(&self) -> bool {
         !matches!(
@@ -114,9 +119,8 @@ impl fmt::Display for Refusal {
     fn fmt(&self, out: &mut fmt::Formatter) -> fmt::Result {
         write!(out, "refused {}", self.number())?;
         match self {
-            Refusal::TrainInTheWay { track } | Refusal::TrainAtHome { track } => {
-                write!(out, " track {track}")
-            }
+            Refusal::TrainInTheWay { track, train } => write!(out, " track {track} train {train}"),
+            Refusal::TrainAtHome { track } => write!(out, " track {track}"),
             Refusal::PointHeld { point } => write!(out, " point {point}"),
             Refusal::SignalRed { signal } => write!(out, " signal {signal}"),
             _ => Ok(()),

@@ -90,12 +90,10 @@ impl State {
             .position(|&on_track| on_track == Some(train))
     }
 
-    /// The lowest track of a rising list that has a train.
-    pub fn first_train_on(&self, rising: &[usize]) -> Option<usize> {
-        rising
-            .iter()
-            .copied()
-            .find(|&track| self.trains[track].is_some())
+    /// The lowest track of a rising list that has a train, and the train on this very track.
+    pub fn first_train_on(&self, rising: &[usize]) -> Option<(usize, u8)> {
+        let mut tracks = rising.iter();
+        tracks.find_map(|&track| Some((track, self.trains[track]?)))
     }
 
     /// The state that the arrays show, or nothing if it is not well formed.

@@ -27,8 +27,8 @@ pub fn request(plan: &Plan, state: &mut State, number: usize) -> Answer {
     if state.signals[route.start].is_some() {
         return Answer::Refused(Refusal::SignalNotRed);
     }
-    if let Some(track) = state.first_train_on(&route.clear) {
-        return Answer::Refused(Refusal::TrainInTheWay { track });
+    if let Some(found) = state.first_train_on(&route.clear) {
+        return Answer::in_the_way(found);
     }
     if let Some(point) = lowest_held(state, route) {
         return Answer::Refused(Refusal::PointHeld { point });
@@ -101,8 +101,8 @@ pub fn enter(entry: &Entry, state: &mut State, train: u8) -> Answer {
     if state.track_of(train).is_some() {
         return Answer::Refused(Refusal::AlreadyInPlan);
     }
-    if let Some(track) = state.first_train_on(&entry.clear) {
-        return Answer::Refused(Refusal::TrainInTheWay { track });
+    if let Some(found) = state.first_train_on(&entry.clear) {
+        return Answer::in_the_way(found);
     }
     let track = entry.track;
     if state.trains[track].is_some() {

@@ -141,16 +141,15 @@ fn clear_before_known(plan: &Plan, state: &mut State, event: &[u8]) -> Answer {
     let occupied = entering(plan, event)
         .and_then(|(entry, _)| state.first_train_on(&plan.entries[entry].clear));
     match occupied {
-        Some(track) => Answer::Refused(Refusal::TrainInTheWay { track }),
+        Some(found) => Answer::in_the_way(found),
         None => step(plan, state, event),
     }
 }
 
 fn names_entry_track(plan: &Plan, state: &mut State, event: &[u8]) -> Answer {
     match (step(plan, state, event), entering(plan, event)) {
-        (Answer::Refused(Refusal::TrainInTheWay { .. }), Some((entry, _))) => {
-            let track = plan.entries[entry].track;
-            Answer::Refused(Refusal::TrainInTheWay { track })
+        (Answer::Refused(Refusal::TrainInTheWay { train, .. }), Some((entry, _))) => {
+            Answer::in_the_way((plan.entries[entry].track, train))
         }
         (answer, _) => answer,
     }

@@ -11,6 +11,7 @@ mod reading;
 mod requests;
 mod rules;
 mod states;
+mod trains;
 mod unasked;
 mod walks;
 mod writers;
@@ -31,7 +32,7 @@ use programs::InProcess;
 pub const MOST_CASES: usize = 20_000;
 
 /// How many there must be at least, so that none is lost unseen. They may only grow.
-const LEAST_BOXES: usize = 469;
+const LEAST_BOXES: usize = 618;
 const LEAST_PROGRAMS: usize = 50;
 
 /// A wrong function in place of a right one.
@@ -117,7 +118,15 @@ pub fn all() -> Vec<Mutant> {
         unasked::LAST_BYTE,
     ];
     let slips = groups.concat().into_iter();
-    slips.map(mutant).chain(wrong_walks()).collect()
+    let printed = trains::PRINTED.concat().into_iter();
+    let slips = slips.map(mutant).chain(wrong_walks());
+    let slips = slips.chain(wrong_trains());
+    slips.chain(printed.map(mutant)).collect()
+}
+
+/// Those of them whose 13 names the wrong train.
+pub fn wrong_trains() -> Vec<Mutant> {
+    trains::STEPS.concat().into_iter().map(mutant).collect()
 }
 
 /// Those of them that walk a list wrongly.

@@ -111,24 +111,19 @@ fn green_for_itself(state: &State, route: &Route, number: usize) -> Option<Answe
     green.map(|_| Answer::Refused(Refusal::SignalNotRed))
 }
 
-fn in_the_way(track: usize) -> Answer {
-    Answer::Refused(Refusal::TrainInTheWay { track })
-}
-
 fn train(state: &State, route: &Route, _: usize) -> Option<Answer> {
-    state.first_train_on(&route.clear).map(in_the_way)
+    state.first_train_on(&route.clear).map(Answer::in_the_way)
 }
 
 fn highest_train(state: &State, route: &Route, _: usize) -> Option<Answer> {
-    let mut occupied = route
-        .clear
-        .iter()
-        .filter(|&&track| state.trains[track].is_some());
-    occupied.next_back().copied().map(in_the_way)
+    let from_last = route.clear.iter().rev();
+    let mut occupied = from_last.filter_map(|&track| Some((track, state.trains[track]?)));
+    occupied.next().map(Answer::in_the_way)
 }
 
 fn first_train(state: &State, route: &Route, _: usize) -> Option<Answer> {
-    state.first_train_on(route.clear.get(..1)?).map(in_the_way)
+    let first = route.clear.get(..1)?;
+    state.first_train_on(first).map(Answer::in_the_way)
 }
 
 fn all_trains(state: &State, route: &Route, number: usize) -> Option<Answer> {

@@ -260,7 +260,7 @@ fn walked(plan: &Plan, state: &mut State, event: &[u8], walks: &Walks) -> Answer
             let list = (walks.entry_list)(entry);
             let found = with_train(state, list, tracks, walks.entry);
             match found {
-                Some(track) if state.track_of(train).is_none() => in_the_way(track),
+                Some(track) if state.track_of(train).is_none() => in_the_way(state, track),
                 // 17 and 40 are right, and nothing is in the way of an entry that looks at nothing.
                 _ => {
                     let clear = vec![];
@@ -273,8 +273,9 @@ fn walked(plan: &Plan, state: &mut State, event: &[u8], walks: &Walks) -> Answer
     }
 }
 
-fn in_the_way(track: usize) -> Answer {
-    Answer::Refused(Refusal::TrainInTheWay { track })
+/// The train is that of the track which is named, or 0 where that has none.
+fn in_the_way(state: &State, track: usize) -> Answer {
+    Answer::in_the_way((track, state.trains[track].unwrap_or(0)))
 }
 
 fn with_train(state: &State, list: &[usize], tracks: usize, walk: Walk) -> Option<usize> {
@@ -289,7 +290,7 @@ fn with_train(state: &State, list: &[usize], tracks: usize, walk: Walk) -> Optio
 /// 13, 14 or 42, if one of them applies.
 fn refused(state: &State, route: &Route, tracks: usize, walks: &Walks) -> Option<Answer> {
     if let Some(track) = with_train(state, (walks.list)(route), tracks, walks.clear) {
-        return Some(in_the_way(track));
+        return Some(in_the_way(state, track));
     }
     let is_held = |point: usize| !state.holds[point].is_empty();
     let both = [walks.held_normal, walks.held_reverse];

@@ -177,7 +177,10 @@ fn reason(line: &str) -> Option<String> {
         _ if !matches!(words[0], "refused" | "accident") => return None,
         "11" => "unknown event, unused byte not 0, no such route or entry, or train 0".to_string(),
         "12" => "the start signal is not red".to_string(),
-        "13" => format!("track {item} of the clear list has a train"),
+        "13" => format!(
+            "train {item} stands on track {} of the clear list",
+            words.get(3)?
+        ),
         "14" => format!("point {item} is held"),
         "15" => "the start signal is not green for this route".to_string(),
         "16" => format!("the home, track {item}, has a train"),

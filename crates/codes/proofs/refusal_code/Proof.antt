@@ -1,4 +1,4 @@
--- `codes::refusal_code`: by its number and value.
+-- `codes::refusal_code`: by its number and values.
 use mathlib.Core.Path.{refl}
 use Rattle.events.specs.Answers.{answerNumber, answerValues, refusalNumber, refusalValues}
 use Rattle.codes.specs.Codes.{answerCode, packed}
@@ -17,6 +17,9 @@ enum-told-3 c = search needs
 
 enum-known-refusal : tie.Need-enum-known-refusal
 enum-known-refusal c = search needs
+
+wide-requires : tie.Need-wide-requires
+wide-requires c κs = search needs
 
 pack-requires : tie.Need-pack-requires
 pack-requires c κs = search needs
@@ -62,7 +65,7 @@ returns-3 c = rw (c .enum-told3 .given .1) refl
 
 returns-4 : tie.Need-returns-4
 unfolding answerCode packed answerNumber answerValues refusalNumber refusalValues
-returns-4 c = rw (c .before .before .refusal .given .1) (c .pack .ensures)
+returns-4 c = rw (c .before .before .before .refusal .given .1, ← c .before .wide .ensures) (c .pack .ensures)
 
 returns-5 : tie.Need-returns-5
 unfolding answerCode packed answerNumber answerValues refusalNumber refusalValues
@@ -96,6 +99,7 @@ refusal-code-spec =
     enum-told-2
     enum-told-3
     enum-known-refusal
+    wide-requires
     pack-requires
     enum-known-refusal-2
     pack-requires-2

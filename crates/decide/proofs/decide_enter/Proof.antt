@@ -10,13 +10,14 @@ use denote.Ref.{now}
 use borrow.Author.Tests.{eq-eqb, ne-eqb, lt-ltb, le-ltb, ltb-true}
 use Rattle.laws.specs.declared.Found.{Found}
 use Rattle.laws.specs.declared.Found.the-variants.{Nothing}
-use Rattle.laws.specs.Search.{unless}
 use Rattle.plan.specs.Limits.{mostTracks}
 use Rattle.plan.specs.Records.{Plan, Entry, entryOf}
 use Rattle.plan.specs.Image.{planOf}
 use Rattle.state.specs.State.{noTrain}
 use Rattle.state.specs.Cells.{trainsIn}
-use Rattle.events.specs.Decide.{busyTrack, frontOf, inPlan, answerEnter, decided}
+use Rattle.events.specs.declared.Met.{Met}
+use Rattle.events.specs.declared.Met.the-variants.{Nobody}
+use Rattle.events.specs.Decide.{busyTrain, unlessTrain, frontOf, inPlan, answerEnter, decided}
 use Rattle.events.proofs.Facts.{entry-below}
 use Rattle.decide.proofs.Along.{entry-rising}
 use borrow.Author.Needs.{needs}
@@ -43,8 +44,8 @@ module _ (s : tie.Start) where
   abbrev Front : Found → Type 0
   Front found = frontOf plan trains (s .args .train) ≡ found
 
-  abbrev Busy : Found → Type 0
-  Busy found = busyTrack (length (plan .tracks)) (entry .clear) trains ≡ found
+  abbrev Busy : Met → Type 0
+  Busy met = busyTrain (length (plan .tracks)) (entry .clear) trains ≡ met
 
 -- The places, each with the way back to the one before it: past a test, or where its answer is known.
 abbrev start : tie.Else1 → tie.Start
@@ -59,10 +60,10 @@ counted c = c .before
 abbrev told-17 : tie.After-enum-told2 → tie.After-front-of
 told-17 c = c .before .before
 
-abbrev past-17 : tie.After-busy-track → tie.After-enum-told2
+abbrev past-17 : tie.After-busy-train → tie.After-enum-told2
 past-17 c = c .before .before
 
-abbrev told-13 : tie.After-enum-told3 → tie.After-busy-track
+abbrev told-13 : tie.After-enum-told3 → tie.After-busy-train
 told-13 c = c .before .before
 
 abbrev past-13 : tie.After-entry-track → tie.After-enum-told3
@@ -71,7 +72,7 @@ past-13 c = c .before
 abbrev start-17 : tie.After-front-of → tie.Start
 start-17 c = start (past-11 (counted c) .before)
 
-abbrev start-13 : tie.After-busy-track → tie.Start
+abbrev start-13 : tie.After-busy-train → tie.Start
 start-13 c = start-17 (told-17 (past-17 c))
 
 abbrev start-40 : tie.After-entry-track → tie.Start
@@ -95,12 +96,12 @@ front c = rw (← counted c .tracks .ensures, ← c .front-of .ensures)
 outside : (c : tie.After-enum-told2) → let s = start-17 (told-17 c) in Known s × Front s Nothing
 outside c = let f = told-17 c in (known (past-11 (counted f)), front f ∙ c .enum-told2 .given .1)
 
-busy : (c : tie.After-busy-track) → Busy (start-13 c) (c .busy-track .result)
+busy : (c : tie.After-busy-train) → Busy (start-13 c) (c .busy-train .result)
 busy c =
     let n = counted (told-17 (past-17 c)) in
-    rw (← n .tracks .ensures, ← c .before .entry-clear .ensures, ← c .busy-track .ensures)
+    rw (← n .tracks .ensures, ← c .before .entry-clear .ensures, ← c .busy-train .ensures)
 
-free : (c : tie.After-enum-told3) → let s = start-13 (told-13 c) in Known s × Front s Nothing × Busy s Nothing
+free : (c : tie.After-enum-told3) → let s = start-13 (told-13 c) in Known s × Front s Nothing × Busy s Nobody
 free c =
     let b = told-13 c in
     let (known, outside) = outside (past-17 b) in
@@ -138,8 +139,8 @@ enum-told-2 c = search needs
 entry-clear-requires : tie.Need-entry-clear-requires
 entry-clear-requires c κs = search needs
 
-busy-track-requires : tie.Need-busy-track-requires
-busy-track-requires c κs =
+busy-train-requires : tie.Need-busy-train-requires
+busy-train-requires c κs =
     let n = counted (told-17 (c .before)) in
     let e = past-11 n .before in
     (few n, rw (n .tracks .ensures, c .entry-clear .ensures) (entry-rising (start e .pre) (ltb-true _ _ (there e))))
@@ -148,7 +149,7 @@ enum-known-busy : tie.Need-enum-known-busy
 enum-known-busy c = search needs
 
 returns-4 : tie.Need-returns-4
-unfolding decided answerEnter inPlan unless
+unfolding decided answerEnter inPlan unlessTrain
 returns-4 c = λ holds.
     let b = c .before .before .before in
     let (known, outside) = outside (past-17 b) in
@@ -167,14 +168,14 @@ has-train-requires c κs =
     omega (arith, c .entry-track .ensures, entry-below _ (s .pre) (s .args .entry) (ltb-true _ _ here), s .pre .tracks .few)
 
 returns-5 : tie.Need-returns-5
-unfolding decided answerEnter inPlan unless
+unfolding decided answerEnter inPlan unlessTrain
 returns-5 c = λ holds.
     let t = c .before .before in
     let (known, outside, free) = free (past-13 t) in
     rw (known, outside, free, ← t .entry-track .ensures, sym (c .before .has-train .ensures) ∙ c .if3 .taken)
 
 returns-6 : tie.Need-returns-6
-unfolding decided answerEnter inPlan unless
+unfolding decided answerEnter inPlan unlessTrain
 returns-6 c = λ holds.
     let t = c .before .before in
     let (known, outside, free) = free (past-13 t) in
@@ -193,7 +194,7 @@ decide-enter-spec =
     returns-3
     enum-told-2
     entry-clear-requires
-    busy-track-requires
+    busy-train-requires
     enum-known-busy
     returns-4
     enum-told-3

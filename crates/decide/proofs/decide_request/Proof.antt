@@ -16,7 +16,9 @@ use Rattle.plan.specs.Image.{planOf}
 use Rattle.state.specs.declared.State.{State}
 use Rattle.state.specs.State.{red}
 use Rattle.state.specs.Cells.{stateIn}
-use Rattle.events.specs.Decide.{isRed, busyTrack, heldPoint, derailedPoint, answerRequest, decided}
+use Rattle.events.specs.declared.Met.{Met}
+use Rattle.events.specs.declared.Met.the-variants.{Nobody}
+use Rattle.events.specs.Decide.{isRed, busyTrain, unlessTrain, heldPoint, derailedPoint, answerRequest, decided}
 use Rattle.events.proofs.Facts.{start-below}
 use Rattle.decide.specs.Along.{RisingTracks}
 use Rattle.decide.proofs.Along.{clear-rising, normal-rising, reverse-rising}
@@ -44,8 +46,8 @@ module _ (s : tie.Start) where
   abbrev Red : Type 0
   Red = isRed (state .signals) (route .start) ≡ true
 
-  abbrev Busy : Found → Type 0
-  Busy found = busyTrack (length (plan .tracks)) (route .clear) (state .trains) ≡ found
+  abbrev Busy : Met → Type 0
+  Busy met = busyTrain (length (plan .tracks)) (route .clear) (state .trains) ≡ met
 
   abbrev Held : Found → Type 0
   Held found = heldPoint (length (plan .tracks)) (route .normal) (route .reverse) (state .holds) ≡ found
@@ -66,10 +68,10 @@ told-12 c = c .before
 abbrev past-12 : tie.After-tracks → tie.Else2
 past-12 c = c .before
 
-abbrev counted : tie.After-busy-track → tie.After-tracks
+abbrev counted : tie.After-busy-train → tie.After-tracks
 counted c = c .before .before
 
-abbrev told-13 : tie.After-enum-told → tie.After-busy-track
+abbrev told-13 : tie.After-enum-told → tie.After-busy-train
 told-13 c = c .before .before
 
 abbrev past-13 : tie.After-held-point → tie.After-enum-told
@@ -84,7 +86,7 @@ past-14 c = c .before
 abbrev start-12 : tie.After-shown-at → tie.Start
 start-12 c = start (past-11 c)
 
-abbrev start-13 : tie.After-busy-track → tie.Start
+abbrev start-13 : tie.After-busy-train → tie.Start
 start-13 c = start-12 (told-12 (past-12 (counted c)))
 
 abbrev start-14 : tie.After-held-point → tie.Start
@@ -108,10 +110,10 @@ ready : (c : tie.Else2) → let s = start-12 (told-12 c) in There s × Red s
 unfolding isRed
 ready c = let t = told-12 c in (there (past-11 t), eq-eqb _ red (shown t ∙ c .if2 .left))
 
-busy : (c : tie.After-busy-track) → Busy (start-13 c) (c .busy-track .result)
-busy c = rw (← counted c .tracks .ensures, ← c .before .clear-of .ensures, ← c .busy-track .ensures)
+busy : (c : tie.After-busy-train) → Busy (start-13 c) (c .busy-train .result)
+busy c = rw (← counted c .tracks .ensures, ← c .before .clear-of .ensures, ← c .busy-train .ensures)
 
-free : (c : tie.After-enum-told) → let s = start-13 (told-13 c) in There s × Red s × Busy s Nothing
+free : (c : tie.After-enum-told) → let s = start-13 (told-13 c) in There s × Red s × Busy s Nobody
 free c =
     let b = told-13 c in
     let (there, red) = ready (past-12 (counted b)) in
@@ -122,7 +124,7 @@ held c =
     let n = counted (told-13 (past-13 c)) in
     rw (← n .tracks .ensures, ← c .before .before .normal-of .ensures, ← c .before .reverse-of .ensures, ← c .held-point .ensures)
 
-loose : (c : tie.After-enum-told2) → let s = start-14 (told-14 c) in There s × Red s × Busy s Nothing × Held s Nothing
+loose : (c : tie.After-enum-told2) → let s = start-14 (told-14 c) in There s × Red s × Busy s Nobody × Held s Nothing
 loose c =
     let h = told-14 c in
     let (there, red, free) = free (past-13 h) in
@@ -173,14 +175,14 @@ tracks-requires c κs = search needs
 clear-of-requires : tie.Need-clear-of-requires
 clear-of-requires c κs = search needs
 
-busy-track-requires : tie.Need-busy-track-requires
-busy-track-requires c κs = (few (c .before), clear c)
+busy-train-requires : tie.Need-busy-train-requires
+busy-train-requires c κs = (few (c .before), clear c)
 
 enum-known-busy : tie.Need-enum-known-busy
 enum-known-busy c = search needs
 
 returns-3 : tie.Need-returns-3
-unfolding decided answerRequest unless
+unfolding decided answerRequest unlessTrain unless
 returns-3 c =
     let b = c .before .before .before in
     let (there, red) = ready (past-12 (counted b)) in
@@ -202,7 +204,7 @@ enum-known-held : tie.Need-enum-known-held
 enum-known-held c = search needs
 
 returns-4 : tie.Need-returns-4
-unfolding decided answerRequest unless
+unfolding decided answerRequest unlessTrain unless
 returns-4 c =
     let h = c .before .before .before in
     let (there, red, free) = free (past-13 h) in
@@ -218,7 +220,7 @@ enum-known-derailed : tie.Need-enum-known-derailed
 enum-known-derailed c = search needs
 
 returns-5 : tie.Need-returns-5
-unfolding decided answerRequest unless
+unfolding decided answerRequest unlessTrain unless
 returns-5 c =
     let d = c .before .before .before in
     let (there, red, free, loose) = loose (past-14 d) in
@@ -228,7 +230,7 @@ enum-told-3 : tie.Need-enum-told-3
 enum-told-3 c = search needs
 
 returns-6 : tie.Need-returns-6
-unfolding decided answerRequest unless
+unfolding decided answerRequest unlessTrain unless
 returns-6 c =
     let d = c .before .before in
     let (there, red, free, loose) = loose (past-14 d) in
@@ -245,7 +247,7 @@ decide-request-spec =
     returns-2
     tracks-requires
     clear-of-requires
-    busy-track-requires
+    busy-train-requires
     enum-known-busy
     returns-3
     enum-told

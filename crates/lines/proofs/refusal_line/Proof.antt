@@ -1,4 +1,4 @@
--- `refusal_line`: after the number, the four cases that name an item name it, and the others end.
+-- `refusal_line`: after the number, the case that names a track and a train and the three that name an item name them, and the others end.
 use mathlib.Core.Path.{refl, _∙_}
 use Prim.Native.Nat.{_+_}
 use native.Mathlib.Omega.{arith}
@@ -32,6 +32,24 @@ put-number-requires c κs = omega arith
 enum-known-refusal : tie.Need-enum-known-refusal
 enum-known-refusal c = c .match .keys1
 
+slice-aggregate-line-of-two : tie.Need-slice-aggregate-line-of-two
+slice-aggregate-line-of-two c = refl
+
+slice-aggregate-line-of-two-2 : tie.Need-slice-aggregate-line-of-two-2
+slice-aggregate-line-of-two-2 c = refl
+
+wide-requires : tie.Need-wide-requires
+wide-requires c κs = tt
+
+line-of-two-requires : tie.Need-line-of-two-requires
+unfolding bytesOf
+line-of-two-requires c κs =
+    let n = numbered (c .before .before .before .before .before .before .before) in
+    room-after (bytesOf "refused ") (n .before .before .refusal-number .result) (7 + numberMost + (7 + numberMost + 1)) (lit≤ tt) (n .put-number .ensures) (start n .pre)
+
+enum-known-refusal-2 : tie.Need-enum-known-refusal-2
+enum-known-refusal-2 c = c .match .keys2
+
 slice-aggregate-line-of-one : tie.Need-slice-aggregate-line-of-one
 slice-aggregate-line-of-one c = refl
 
@@ -41,8 +59,8 @@ line-of-one-requires c κs =
     let n = numbered (c .before .before .before .before .before) in
     room-after (bytesOf "refused ") (n .before .before .refusal-number .result) (7 + numberMost + 1) (lit≤ tt) (n .put-number .ensures) (start n .pre)
 
-enum-known-refusal-2 : tie.Need-enum-known-refusal-2
-enum-known-refusal-2 c = c .match .keys2
+enum-known-refusal-3 : tie.Need-enum-known-refusal-3
+enum-known-refusal-3 c = c .match .keys3
 
 slice-aggregate-line-of-one-2 : tie.Need-slice-aggregate-line-of-one-2
 slice-aggregate-line-of-one-2 c = refl
@@ -53,8 +71,8 @@ line-of-one-requires-2 c κs =
     let n = numbered (c .before .before .before .before .before) in
     room-after (bytesOf "refused ") (n .before .before .refusal-number .result) (7 + numberMost + 1) (lit≤ tt) (n .put-number .ensures) (start n .pre)
 
-enum-known-refusal-3 : tie.Need-enum-known-refusal-3
-enum-known-refusal-3 c = c .match .keys3
+enum-known-refusal-4 : tie.Need-enum-known-refusal-4
+enum-known-refusal-4 c = c .match .keys4
 
 slice-aggregate-line-of-one-3 : tie.Need-slice-aggregate-line-of-one-3
 slice-aggregate-line-of-one-3 c = refl
@@ -62,18 +80,6 @@ slice-aggregate-line-of-one-3 c = refl
 line-of-one-requires-3 : tie.Need-line-of-one-requires-3
 unfolding bytesOf
 line-of-one-requires-3 c κs =
-    let n = numbered (c .before .before .before .before .before) in
-    room-after (bytesOf "refused ") (n .before .before .refusal-number .result) (7 + numberMost + 1) (lit≤ tt) (n .put-number .ensures) (start n .pre)
-
-enum-known-refusal-4 : tie.Need-enum-known-refusal-4
-enum-known-refusal-4 c = c .match .keys4
-
-slice-aggregate-line-of-one-4 : tie.Need-slice-aggregate-line-of-one-4
-slice-aggregate-line-of-one-4 c = refl
-
-line-of-one-requires-4 : tie.Need-line-of-one-requires-4
-unfolding bytesOf
-line-of-one-requires-4 c κs =
     let n = numbered (c .before .before .before .before .before) in
     room-after (bytesOf "refused ") (n .before .before .refusal-number .result) (8 + numberMost + 1) (lit≤ tt) (n .put-number .ensures) (start n .pre)
 
@@ -85,44 +91,45 @@ put-end-requires c κs =
     omega arith
 
 same-length : tie.Need-same-length
-same-length c = c .before .before .line-of-one .kept .1 .1 .0 ∙ numbered (c .before .before .before .before .before .before .before .before) .put-number .kept .1 .1 .0
+same-length c = c .before .before .line-of-two .kept .1 .1 .1 .1 .0 ∙ numbered (c .before .before .before .before .before .before .before .before .before .before) .put-number .kept .1 .1 .0
 
 returns : tie.Need-returns
 unfolding answerLine answerWords tableNumber refusalWords answerValues refusalValues line bytesOf
 returns c =
-    let m = c .before .before .before .before .before .before in
+    let w = c .before .before .before .before in
+    let m = w .before .before .before .before in
     let n = m .before .before .before .before in
-    rw (← n .before .before .refusal-number .ensures, m .refusal .given .1) (wrote-then (n .put-number .ensures) (c .before .before .line-of-one .ensures))
+    rw (← n .before .before .refusal-number .ensures, m .refusal .given .1, ← w .wide .ensures) (wrote-then (n .put-number .ensures) (c .before .before .line-of-two .ensures))
 
 same-length-2 : tie.Need-same-length-2
-same-length-2 c = c .before .before .line-of-one2 .kept .1 .1 .0 ∙ numbered (c .before .before .before .before .before .before .before .before) .put-number .kept .1 .1 .0
+same-length-2 c = c .before .before .line-of-one .kept .1 .1 .0 ∙ numbered (c .before .before .before .before .before .before .before .before) .put-number .kept .1 .1 .0
 
 returns-2 : tie.Need-returns-2
 unfolding answerLine answerWords tableNumber refusalWords answerValues refusalValues line bytesOf
 returns-2 c =
     let m = c .before .before .before .before .before .before in
     let n = m .before .before .before .before in
-    rw (← n .before .before .refusal-number .ensures, m .refusal2 .given .1) (wrote-then (n .put-number .ensures) (c .before .before .line-of-one2 .ensures))
+    rw (← n .before .before .refusal-number .ensures, m .refusal2 .given .1) (wrote-then (n .put-number .ensures) (c .before .before .line-of-one .ensures))
 
 same-length-3 : tie.Need-same-length-3
-same-length-3 c = c .before .before .line-of-one3 .kept .1 .1 .0 ∙ numbered (c .before .before .before .before .before .before .before .before) .put-number .kept .1 .1 .0
+same-length-3 c = c .before .before .line-of-one2 .kept .1 .1 .0 ∙ numbered (c .before .before .before .before .before .before .before .before) .put-number .kept .1 .1 .0
 
 returns-3 : tie.Need-returns-3
 unfolding answerLine answerWords tableNumber refusalWords answerValues refusalValues line bytesOf
 returns-3 c =
     let m = c .before .before .before .before .before .before in
     let n = m .before .before .before .before in
-    rw (← n .before .before .refusal-number .ensures, m .refusal3 .given .1) (wrote-then (n .put-number .ensures) (c .before .before .line-of-one3 .ensures))
+    rw (← n .before .before .refusal-number .ensures, m .refusal3 .given .1) (wrote-then (n .put-number .ensures) (c .before .before .line-of-one2 .ensures))
 
 same-length-4 : tie.Need-same-length-4
-same-length-4 c = c .before .before .line-of-one4 .kept .1 .1 .0 ∙ numbered (c .before .before .before .before .before .before .before .before) .put-number .kept .1 .1 .0
+same-length-4 c = c .before .before .line-of-one3 .kept .1 .1 .0 ∙ numbered (c .before .before .before .before .before .before .before .before) .put-number .kept .1 .1 .0
 
 returns-4 : tie.Need-returns-4
 unfolding answerLine answerWords tableNumber refusalWords answerValues refusalValues line bytesOf
 returns-4 c =
     let m = c .before .before .before .before .before .before in
     let n = m .before .before .before .before in
-    rw (← n .before .before .refusal-number .ensures, m .refusal4 .given .1) (wrote-then (n .put-number .ensures) (c .before .before .line-of-one4 .ensures))
+    rw (← n .before .before .refusal-number .ensures, m .refusal4 .given .1) (wrote-then (n .put-number .ensures) (c .before .before .line-of-one3 .ensures))
 
 same-length-5 : tie.Need-same-length-5
 same-length-5 c = c .before .before .put-end .kept .0 ∙ numbered (c .before .before .before .before .before) .put-number .kept .1 .1 .0
@@ -142,17 +149,19 @@ refusal-line-spec =
     refusal-number-requires
     put-number-requires
     enum-known-refusal
+    slice-aggregate-line-of-two
+    slice-aggregate-line-of-two-2
+    wide-requires
+    line-of-two-requires
+    enum-known-refusal-2
     slice-aggregate-line-of-one
     line-of-one-requires
-    enum-known-refusal-2
+    enum-known-refusal-3
     slice-aggregate-line-of-one-2
     line-of-one-requires-2
-    enum-known-refusal-3
+    enum-known-refusal-4
     slice-aggregate-line-of-one-3
     line-of-one-requires-3
-    enum-known-refusal-4
-    slice-aggregate-line-of-one-4
-    line-of-one-requires-4
     put-end-requires
     same-length
     returns

@@ -1,28 +1,27 @@
--- `tests::busy_in`: the first of the list that has a train.
+-- `tests::busy_in`: the first of the list that has a train, and the train.
 use Prim.Native.Nat.{_-_}
 use native.Mathlib.Omega.{arith}
 use lib.ListN.{length}
-use mathlib.Core.Path.{refl, sym, _∙_}
+use mathlib.Core.Path.{refl}
 use Rattle.laws.specs.Lists.{all-at}
 use Rattle.state.specs.Cells.{trainsIn}
-use Rattle.events.specs.Decide.{hasTrain}
-use Rattle.decide.proofs.Along.{Walked, walk-met, walk-on, walk-over}
+use Rattle.decide.proofs.Along.{Looked, look-met, look-on, look-over}
 use borrow.Author.Needs.{needs}
 use Rattle.decide.proofs.tests.busy_in.Statement.{statement}
 use Rattle.decide.proofs.tests.busy_in.Tie as tie
 
 abbrev Inv-loop : tie.InvT-loop
-Inv-loop tracks cells place₀ place = Walked (hasTrain (trainsIn cells)) tracks place₀ place
+Inv-loop tracks cells place₀ place = Looked (trainsIn cells) tracks place₀ place
 
 abbrev μ-loop : tie.MeasureT-loop
 μ-loop tracks cells place₀ place = length tracks - place
 
 loop-holds : tie.Need-loop-holds Inv-loop μ-loop
-loop-holds c = record { left = refl }
+loop-holds c = record { walked = record { left = refl } }
 
 -- The walk's end stands first, so that one that ends too soon is refused for what it hands back.
 returns-2 : tie.Need-returns-2 Inv-loop μ-loop
-returns-2 c = walk-over (c .before .loop .inv) (omega (arith, c .loop-test .left))
+returns-2 c = look-over (c .before .loop .inv) (omega (arith, c .loop-test .left))
 
 shared-slice-read-wide : tie.Need-shared-slice-read-wide Inv-loop μ-loop
 shared-slice-read-wide c = search needs
@@ -34,16 +33,16 @@ returns : tie.Need-returns Inv-loop μ-loop
 returns c =
     let w = c .before .before in
     let turn = w .before .before in
-    walk-met (turn .before .loop .inv) (turn .loop-test .taken) (w .wide .ensures) (sym (c .before .has-train .ensures) ∙ c .if1 .taken)
+    look-met (turn .before .loop .inv) (turn .loop-test .taken) (w .wide .ensures) (c .before .train-at .ensures) (c .if1 .taken)
 
 loop-again : tie.Need-loop-again Inv-loop μ-loop
 loop-again c =
     let w = c .before .before in
     let turn = w .before .before in
-    walk-on (turn .before .loop .inv) (turn .loop-test .taken) (w .wide .ensures) (sym (c .before .has-train .ensures) ∙ c .if1 .left)
+    look-on (turn .before .loop .inv) (turn .loop-test .taken) (w .wide .ensures) (c .before .train-at .ensures) (c .if1 .left)
 
-has-train-requires : tie.Need-has-train-requires Inv-loop μ-loop
-has-train-requires c κs =
+train-at-requires : tie.Need-train-at-requires Inv-loop μ-loop
+train-at-requires c κs =
     let turn = c .before .before in
     let asked = turn .before .before .before .pre in
     omega (arith, c .wide .ensures, all-at _ _ _ 0 asked (turn .loop-test .taken))
@@ -63,7 +62,7 @@ busy-in-spec =
     loop-holds
     shared-slice-read-wide
     wide-requires
-    has-train-requires
+    train-at-requires
     returns
     add-place
     loop-less
