@@ -215,8 +215,9 @@ typedef struct signalbox_state {
 #define SIGNALBOX_REFUSED_NOT_RED 12       /* refused 12: request, the start signal is not red */
 #define SIGNALBOX_REFUSED_OCCUPIED 13      /* refused 13 track <track> train <train>: request or entry, a track of the
                                               clear list has a train; the lowest such track, and the train on it */
-#define SIGNALBOX_REFUSED_HELD 14          /* refused 14 point <point>: request, a listed point is held by any route;
-                                              the lowest such point */
+#define SIGNALBOX_REFUSED_HELD 14          /* refused 14 point <point>: request, a listed point is held by any route
+                                              and lies otherwise than the grant would leave it; the lowest such
+                                              point */
 #define SIGNALBOX_REFUSED_NOT_GREEN 15     /* refused 15: cancel, the start signal is not green for this route */
 #define SIGNALBOX_REFUSED_HOME_OCCUPIED 16 /* refused 16 track <track>: cancel, the home track has a train */
 #define SIGNALBOX_REFUSED_TRAIN_IN 17      /* refused 17: entry, the train is in the plan already */

@@ -9,72 +9,75 @@ pub fn sessions() -> Vec<Session> {
     vec![flank_protection(), nothing_else_is_asked()]
 }
 
-/// Two lines, from track 0 over the point 1 and from track 6 over the point 7; a way from each meets
+/// Two lines, from track 0 over the point 7 and from track 6 over the point 1; a way from each meets
 /// at point 3, and goes on to point 4 and the exit 5.
 const TWO_LINES: [&[u8]; 7] = [
     &[
-        9, 0, 1, 0, 0, 1, 2, 3, 0, 0, 4, 0, 0, 2, 4, 1, 7, 2, 5, 2, 3, 3, 0, 0, 0, 0, 7, 0, 0, 1,
-        8, 3, 0, 3, 0, 0, 0,
+        9, 0, 7, 0, 0, 1, 8, 3, 0, 0, 4, 0, 0, 2, 4, 7, 1, 2, 5, 2, 3, 3, 0, 0, 0, 0, 1, 0, 0, 1,
+        2, 3, 0, 3, 0, 0, 0,
     ],
     &[2, 0, 6],
     &[
-        4, 0, 4, 1, 2, 4, 5, 6, 1, 2, 3, 4, 5, 7, 3, 1, 4, 7, 1, 3, 4, 2, 1, 4, 3, 5, 4, 5, 7,
+        4, 0, 4, 7, 2, 4, 5, 6, 1, 2, 3, 4, 5, 7, 3, 1, 4, 7, 1, 3, 4, 5, 1, 4, 3, 5, 4, 2, 7,
     ],
     &[
-        0, 4, 1, 3, 4, 5, 5, 1, 3, 4, 5, 7, 2, 3, 7, 2, 1, 4, 4, 3, 1, 4, 3, 5, 4, 1, 7,
+        0, 4, 7, 3, 4, 5, 5, 1, 3, 4, 5, 7, 2, 1, 3, 2, 4, 7, 4, 7, 1, 4, 3, 5, 4, 3, 7,
     ],
-    &[1, 2, 7, 8, 3, 3, 7, 8, 1, 7, 0, 1, 8, 7],
+    &[1, 2, 1, 8, 3, 1, 3, 8, 1, 1, 0, 1, 8, 1],
     &[
-        1, 4, 7, 3, 4, 5, 5, 2, 3, 4, 5, 7, 0, 3, 3, 4, 7, 3, 5, 3, 5, 4, 3, 7,
+        1, 4, 1, 3, 4, 5, 5, 1, 2, 3, 4, 5, 0, 3, 1, 3, 4, 3, 3, 1, 5, 3, 5, 4,
     ],
-    &[2, 0, 2, 0, 1, 6, 3, 3, 6, 7],
+    &[2, 0, 2, 0, 7, 6, 3, 1, 3, 6],
 ];
 
 fn flank_protection() -> Session {
     session(
         "flank-protection",
-        "Two lines, from track 0 over point 1 and from track 6 over point 7; a way from each meets \
-         at point 3 and goes on to point 4 and the exit 5. Routes 0 and 1 list point 7 normal, \
+        "Two lines, from track 0 over point 7 and from track 6 over point 1; a way from each meets \
+         at point 3 and goes on to point 4 and the exit 5. Routes 0 and 1 list point 1 normal, \
          and route 0 lists point 3 reverse, though they don't pass there (flank protection); \
-         route 1 gives point 7 back at the first track of its path. Clear lists hold tracks off \
-         the path: route 2's point 3, route 3's track 2, and those of the entries. All of it is \
-         allowed, and the plan is accepted.",
+         route 1 gives point 1 back at the first track of its path. While one of them holds point \
+         1 it can't be turned for route 3 (14 in events 4 and 22), but at the end route 0 gets it \
+         beside route 2, which holds it already, since it lies as both want it (46); it goes on \
+         holding it when route 2 is cancelled (47, 48). Clear lists hold tracks off the path: route \
+         2's point 3, route 3's track 2, and those of the entries. All of it is allowed, and the \
+         plan is accepted.",
         &TWO_LINES,
         "accepted",
         &[
             ([3, 0, 1], "entered 1 track 0"),
             ([1, 0, 0], "granted 0"),
             ([3, 1, 2], "entered 2 track 6"),
-            // Route 0 holds point 7, off its path.
-            ([1, 2, 0], "refused 14 point 7"),
-            ([4, 1, 0], "moved 1 from 0 to 1"),
-            ([3, 0, 3], "refused 13 track 1 train 1"),
-            ([4, 1, 0], "moved 1 from 1 to 2"),
+            // Route 0 holds point 1, off its path; point 3 lies as route 3 wants it.
+            ([1, 3, 0], "refused 14 point 1"),
+            ([4, 1, 0], "moved 1 from 0 to 7"),
+            ([3, 0, 3], "refused 13 track 7 train 1"),
+            ([4, 1, 0], "moved 1 from 7 to 2"),
             ([3, 0, 3], "entered 3 track 0"),
             // Track 2 is off route 3's path.
             ([1, 3, 0], "refused 13 track 2 train 1"),
-            // Point 1 has been given back, point 3 not yet.
+            // Point 7 has been given back, point 3 not yet; point 1 is held and lies right.
             ([1, 1, 0], "refused 14 point 3"),
             ([4, 1, 0], "moved 1 from 2 to 4"),
             ([1, 3, 0], "refused 13 track 4 train 1"),
             ([4, 1, 0], "moved 1 from 4 to 5"),
             ([1, 2, 0], "granted 2"),
-            ([4, 2, 0], "moved 2 from 6 to 7"),
+            ([4, 2, 0], "moved 2 from 6 to 1"),
             ([4, 1, 0], "left 1 from 5"),
-            // Track 7 is off route 1's path.
-            ([1, 1, 0], "refused 13 track 7 train 2"),
-            ([4, 2, 0], "moved 2 from 7 to 8"),
+            // Track 1 is off route 1's path.
+            ([1, 1, 0], "refused 13 track 1 train 2"),
+            ([4, 2, 0], "moved 2 from 1 to 8"),
             ([1, 1, 0], "granted 1"),
             ([4, 2, 0], "left 2 from 8"),
             ([3, 1, 4], "entered 4 track 6"),
-            ([1, 2, 0], "refused 14 point 7"),
-            ([4, 3, 0], "moved 3 from 0 to 1"),
-            // Point 7 has been given back, point 3 not yet.
+            ([1, 3, 0], "refused 14 point 1"),
+            ([4, 3, 0], "moved 3 from 0 to 7"),
+            // Point 1 has been given back, point 3 not yet.
             ([1, 3, 0], "refused 14 point 3"),
             ([1, 2, 0], "granted 2"),
-            ([4, 3, 0], "moved 3 from 1 to 3"),
-            ([4, 4, 0], "moved 4 from 6 to 7"),
-            ([4, 4, 0], "moved 4 from 7 to 8"),
+            ([4, 3, 0], "moved 3 from 7 to 3"),
+            ([4, 4, 0], "moved 4 from 6 to 1"),
+            ([4, 4, 0], "moved 4 from 1 to 8"),
             ([3, 1, 5], "refused 13 track 3 train 3"),
             ([4, 3, 0], "moved 3 from 3 to 4"),
             ([3, 1, 5], "entered 5 track 6"),
@@ -83,20 +86,21 @@ fn flank_protection() -> Session {
             ([1, 3, 0], "refused 13 track 5 train 3"),
             ([4, 3, 0], "left 3 from 5"),
             ([1, 3, 0], "granted 3"),
-            ([4, 5, 0], "moved 5 from 6 to 7"),
-            ([4, 5, 0], "moved 5 from 7 to 3"),
+            ([4, 5, 0], "moved 5 from 6 to 1"),
+            ([4, 5, 0], "moved 5 from 1 to 3"),
             // Point 3 is off route 2's path, and not listed.
             ([1, 2, 0], "refused 13 track 3 train 5"),
             ([4, 5, 0], "moved 5 from 3 to 4"),
-            // Route 3 gave point 7 back at track 3; it holds points 3 and 4 until track 5.
+            // Route 3 gave point 1 back at track 3; it holds points 3 and 4 until track 5.
             ([1, 2, 0], "granted 2"),
             ([3, 0, 6], "entered 6 track 0"),
             ([1, 0, 0], "refused 13 track 4 train 5"),
             ([4, 5, 0], "moved 5 from 4 to 5"),
             ([4, 5, 0], "left 5 from 5"),
-            ([1, 0, 0], "refused 14 point 7"),
-            ([2, 2, 0], "cancelled 2"),
+            // Route 2 holds point 1, and it lies as route 0 wants it.
             ([1, 0, 0], "granted 0"),
+            ([2, 2, 0], "cancelled 2"),
+            ([1, 3, 0], "refused 14 point 1"),
         ],
     )
 }

@@ -21,8 +21,8 @@ pub const CASES: Compared = Compared {
 };
 
 pub const EARLIER: Compared = Compared {
-    with_box: "compared: the box with an earlier one, the train of 13 dropped",
-    alone: "compared: the model with an earlier box, the train of 13 dropped",
+    with_box: "compared: the box with an earlier one, whose 14 is for every held point",
+    alone: "compared: the model with an earlier box, whose 14 is for every held point",
 };
 
 pub const FOLDERS: Compared = Compared {

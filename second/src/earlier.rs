@@ -1,35 +1,84 @@
-//! A box beside an earlier one, whose 13 names no train: with the train dropped, every code and every
-//! line must be the earlier box's, and so must be all that either leaves in what it was lent. Each has
-//! room for the longer lines; what too little room does is no matter of this.
+//! A box beside an earlier one, whose 14 is for every listed point that is held. From one and the same
+//! state every answer, every line and every state must be the earlier box's, except where that says 14:
+//! there this box may go on to a higher point, to 42 or to a grant, as the earlier one does without the
+//! holds that it passes over; and 14 it must say of the lowest held point that the earlier box would turn
+//! if there were no holds, or not at all. Both start from this box's state at each event of a run, since their runs
+//! part at the first such grant.
 
+use crate::book::{Book, MODEL};
 use crate::compare::driver::Search;
-use crate::compare::dropped::without_train;
-use crate::compare::history::{self, Told};
 use crate::compare::trouble::Trouble;
 use crate::generate::case::{case, Case};
 use crate::generate::pieces::Pieces;
-use crate::model::answer::{Answer, Refusal};
+use crate::model::answer::{Accident, Answer, Refusal};
 use crate::model::image::IMAGE_SIZE;
+use crate::model::plan::Plan;
+use crate::model::state::State;
+use crate::model::step::{is_held, step};
 use crate::random::Random;
 use crate::subject::{Fenced, Kept, Lent, Memory, Prepared, Subject, EVENT, LINE};
 use std::fmt::Debug;
 
 type Finding = Result<(), Trouble>;
 
-/// Fewer 13s than this of requests or of entries say nothing.
+/// What became of the earlier box's 14.
+#[derive(Clone, Copy, Debug, PartialEq, Eq)]
+enum Fate {
+    Granted,
+    Derailed,
+    Higher,
+    Stayed,
+}
+
+const FATES: [&str; 4] = [
+    "14 before, granted now",
+    "14 before, 42 now",
+    "14 before, 14 of a higher point now",
+    "14 before, 14 of the same point now",
+];
+
+/// Fewer of any of these say nothing.
 const LEAST: u64 = 100;
+
+/// The model as it was before No. 4.
+pub const BEFORE: Book = Book {
+    step: step_before,
+    ..MODEL
+};
+
+/// 14 for every listed point that is held; all else is the same.
+fn step_before(plan: &Plan, state: &mut State, event: &[u8]) -> Answer {
+    let after_14 = |answer: &Answer| {
+        matches!(
+            answer,
+            Answer::Granted { .. }
+                | Answer::Refused(Refusal::PointHeld { .. })
+                | Answer::Accident(Accident::Derailment { .. })
+        )
+    };
+    if let [1, number, 0] = *event {
+        if after_14(&step(plan, &mut state.clone(), event)) {
+            let listed = plan.routes[usize::from(number)].listed();
+            let held = listed.filter(|&point| is_held(state, point));
+            if let Some(point) = held.min() {
+                return Answer::Refused(Refusal::PointHeld { point });
+            }
+        }
+    }
+    step(plan, state, event)
+}
 
 /// How much was compared.
 #[derive(Clone, Copy, Debug, Default)]
 pub struct Seen {
     pub plans: u64,
     pub events: u64,
-    /// 13s of requests, and of entries.
-    pub requests: u64,
-    pub entries: u64,
+    /// What became of 14, in the order of the fates.
+    pub fates: [u64; FATES.len()],
 }
 
-/// Compares and prints. True if nothing is another and 13 was seen often enough.
+/// Compares and prints. True if nothing is another that must not be, and all that may be another was seen
+/// often enough.
 pub fn compare(now: &dyn Subject, earlier: &dyn Subject, search: &Search) -> bool {
     let mut seeds = Random::new(search.seed);
     let mut seen = Seen::default();
@@ -42,15 +91,16 @@ pub fn compare(now: &dyn Subject, earlier: &dyn Subject, search: &Search) -> boo
             return false;
         }
     }
-    let Seen {
-        plans,
-        events,
-        requests,
-        entries,
-    } = seen;
-    println!("{plans:>10} plans\n{events:>10} events");
-    println!("{requests:>10} times 13 for a request\n{entries:>10} times 13 for an entry");
-    requests >= LEAST && entries >= LEAST
+    println!("{:>10} plans\n{:>10} events", seen.plans, seen.events);
+    for (fate, count) in FATES.iter().zip(seen.fates) {
+        println!("{count:>10} times {fate}");
+    }
+    let too_few = FATES.iter().zip(seen.fates);
+    let too_few: Vec<_> = too_few.filter(|(_, count)| *count < LEAST).collect();
+    for (fate, count) in &too_few {
+        println!("too few: {fate}: {count} of {LEAST}");
+    }
+    too_few.is_empty()
 }
 
 /// All that is tried on the plan of one case.
@@ -94,89 +144,157 @@ struct Sides<'a> {
     seen: &'a mut Seen,
 }
 
+/// What both have done from the same, and what each keeps then.
+struct Both<T> {
+    earlier: T,
+    now: T,
+    kept_before: Kept,
+    kept: Kept,
+}
+
+impl<T> Both<T> {
+    /// The same must be kept, unless the answers have parted.
+    fn end(self, has_parted: bool) -> Result<Kept, Trouble> {
+        if !has_parted {
+            same("what is kept", &self.kept_before, &self.kept)?;
+        }
+        Ok(self.kept)
+    }
+}
+
 impl Sides<'_> {
-    /// A call of both from the same, after which the same must be kept.
+    /// A call of both from the same.
     fn both<T>(
         &mut self,
         from: &Kept,
         call: impl Fn(&mut dyn Prepared, &mut Kept) -> T,
-    ) -> Result<(T, T, Kept), Trouble> {
-        let [mut kept, mut other] = [from.clone(), from.clone()];
-        let earlier = call(self.earlier.as_mut(), &mut kept);
-        let now = call(self.now.as_mut(), &mut other);
-        same("what is kept", &kept, &other)?;
-        Ok((earlier, now, kept))
+    ) -> Both<T> {
+        let [mut kept_before, mut kept] = [from.clone(), from.clone()];
+        let earlier = call(self.earlier.as_mut(), &mut kept_before);
+        let now = call(self.now.as_mut(), &mut kept);
+        Both {
+            earlier,
+            now,
+            kept_before,
+            kept,
+        }
     }
 
-    /// Whole events from the fresh state, one by one.
+    /// Whole events from the fresh state, each from the state that this box has come to: by a single
+    /// step, and with its line.
     fn story(&mut self, events: &[u8]) -> Finding {
-        let earlier = history::play(self.earlier.as_mut(), events);
-        let now = history::play(self.now.as_mut(), events);
-        let story = earlier.iter().zip(&now).zip(events.chunks(EVENT));
-        for ((earlier, now), event) in story {
-            self.answers(event, &earlier.answer, &now.answer)?;
-            let after = |told: &Told| told.after.clone();
-            same("the state after an event", after(earlier), after(now))?;
+        let mut kept = Kept::fresh();
+        for event in events.chunks_exact(EVENT) {
+            let fed = self.both(&kept, |ready, kept| ready.feed(kept, event, LINE));
+            let has_parted = same_text(&fed.earlier, &fed.now)?;
+            fed.end(has_parted)?;
+            kept = self.step(&kept, event)?;
         }
         Ok(())
     }
 
-    fn step(&mut self, from: &Kept, event: &[u8]) -> Finding {
-        let (earlier, now, _) =
-            self.both(from, |ready, kept| ready.step(&mut kept.state, event))?;
-        self.answers(event, &earlier, &now)
+    /// Hands back what this box keeps after the event.
+    fn step(&mut self, from: &Kept, event: &[u8]) -> Result<Kept, Trouble> {
+        let both = self.both(from, |ready, kept| ready.step(&mut kept.state, event));
+        let has_parted = self.answers(&both.earlier, &both.now)?;
+        if let Answer::Refused(Refusal::PointHeld { .. }) = both.earlier {
+            self.by_what_turns(from, event, &both.now)?;
+        }
+        if has_parted {
+            self.without_holds(from, event, &both)?;
+            return Ok(both.kept);
+        }
+        both.end(false)
     }
 
-    /// Many events, with as much room as they need.
+    /// Where the earlier box says 14, it shows what a grant turns if there are no holds and no trains. Of
+    /// the points that are held this box's 14 is for the lowest of these, and is not said if there is none.
+    fn by_what_turns(&mut self, from: &Kept, event: &[u8], now: &Answer) -> Finding {
+        let mut free = from.state.clone();
+        free.holds.fill(0);
+        free.trains.fill(0);
+        if let Answer::Granted { .. } = self.earlier.step(&mut free, event) {
+            let held = (0..free.lies.len()).filter(|&point| from.state.holds[point] != 0);
+            let turned = held
+                .filter(|&point| free.lies[point] != from.state.lies[point])
+                .min();
+            let named = match *now {
+                Answer::Refused(Refusal::PointHeld { point }) => Some(point),
+                _ => None,
+            };
+            same("the lowest held point that a grant turns", turned, named)?;
+        }
+        Ok(())
+    }
+
+    /// Where this box goes on, the earlier one does the same if there are no holds lower than what this
+    /// one names, or none at all where it names none. With them put back the states are the same.
+    fn without_holds(&mut self, from: &Kept, event: &[u8], both: &Both<Answer>) -> Finding {
+        let below = match both.now {
+            Answer::Refused(Refusal::PointHeld { point }) => point,
+            _ => from.state.holds.len(),
+        };
+        let mut state = from.state.clone();
+        state.holds[..below].fill(0);
+        let answer = self.earlier.step(&mut state, event);
+        for (holders, taken) in state.holds.iter_mut().zip(&from.state.holds[..below]) {
+            *holders |= taken;
+        }
+        same("the answer without holds", answer, both.now)?;
+        same("the state with them", &state, &both.kept.state)
+    }
+
+    /// Many events, with as much room as they need, as far as the boxes go together.
     fn at_once(&mut self, from: &Kept, events: &[u8]) -> Finding {
         let room = events.len().div_ceil(EVENT);
-        let (earlier, now, _) = self.both(from, |ready, kept| ready.run(kept, events, room))?;
+        let both = self.both(from, |ready, kept| ready.run(kept, events, room));
         let outcome = |lent: &Lent<Answer>| (lent.reason, lent.count, lent.cells.len());
-        same("a run", outcome(&earlier), outcome(&now))?;
-        let mut events = events.chunks(EVENT);
-        for (earlier, now) in earlier.cells.iter().zip(&now.cells) {
+        same("a run", outcome(&both.earlier), outcome(&both.now))?;
+        let mut has_parted = false;
+        let cells = both.earlier.cells.iter().zip(&both.now.cells);
+        for (earlier, now) in cells {
             match (earlier, now) {
-                (Some(earlier), Some(now)) => {
-                    self.answers(events.next().unwrap_or_default(), earlier, now)?;
-                }
+                _ if has_parted => same("a cell of a run", earlier.is_some(), now.is_some())?,
+                (Some(earlier), Some(now)) => has_parted = self.answers(earlier, now)?,
                 _ => same("a cell of a run", earlier, now)?,
             }
         }
-        Ok(())
+        both.end(has_parted).map(|_| ())
     }
 
+    /// Piece by piece, each from what this box has kept.
     fn session(&mut self, session: &Pieces) -> Finding {
         let mut kept = session.from.clone();
         for piece in &session.pieces {
             let begun = kept.begun().map_or(0, <[u8]>::len);
             let room = (begun + piece.bytes.len()) / EVENT * LINE;
-            let feed =
-                |ready: &mut dyn Prepared, kept: &mut Kept| ready.feed(kept, &piece.bytes, room);
-            let (earlier, now, after) = self.both(&kept, feed)?;
-            same_text(&earlier, &now)?;
-            kept = after;
+            let both = self.both(&kept, |ready, kept| ready.feed(kept, &piece.bytes, room));
+            let has_parted = same_text(&both.earlier, &both.now)?;
+            kept = both.end(has_parted)?;
         }
-        let (earlier, now, _) = self.both(&kept, |ready, kept| ready.finish(kept, LINE))?;
-        same_text(&earlier, &now)
+        let both = self.both(&kept, |ready, kept| ready.finish(kept, LINE));
+        let has_parted = same_text(&both.earlier, &both.now)?;
+        both.end(has_parted).map(|_| ())
     }
 
-    /// The codes of an event. The earlier one has no train, and this one must have one.
-    fn answers(&mut self, event: &[u8], earlier: &Answer, now: &Answer) -> Finding {
+    /// The answers to an event. True if they are two, which only the earlier box's 14 allows.
+    fn answers(&mut self, earlier: &Answer, now: &Answer) -> Result<bool, Trouble> {
         self.seen.events += 1;
-        let is_same = match *now {
-            Answer::Refused(Refusal::TrainInTheWay { track, train }) => {
-                match event.first() {
-                    Some(1) => self.seen.requests += 1,
-                    _ => self.seen.entries += 1,
-                }
-                train != 0 && *earlier == Answer::in_the_way((track, 0))
-            }
-            now => *earlier == now,
+        let Answer::Refused(Refusal::PointHeld { point }) = *earlier else {
+            return match earlier == now {
+                true => Ok(false),
+                false => Err(Trouble::new(earlier, now)),
+            };
         };
-        match is_same {
-            true => Ok(()),
-            false => Err(Trouble::new(earlier, now)),
-        }
+        let fate = match *now {
+            Answer::Granted { .. } => Fate::Granted,
+            Answer::Accident(Accident::Derailment { .. }) => Fate::Derailed,
+            Answer::Refused(Refusal::PointHeld { point: other }) if other > point => Fate::Higher,
+            Answer::Refused(Refusal::PointHeld { point: other }) if other == point => Fate::Stayed,
+            _ => return Err(Trouble::new(earlier, now)),
+        };
+        self.seen.fates[fate as usize] += 1;
+        Ok(fate != Fate::Stayed)
     }
 }
 
@@ -208,26 +326,36 @@ fn files(now: &dyn Subject, earlier: &dyn Subject, case: &Case) -> Finding {
     Ok(())
 }
 
-/// Printed lines, in which the train of 13 alone is new.
-fn same_lines(earlier: &[u8], now: &[u8]) -> Finding {
-    let lines = |printed: &[u8]| -> Vec<Vec<u8>> {
+/// Printed lines up to the first at which the boxes part, and whether they do.
+fn same_lines(earlier: &[u8], now: &[u8]) -> Result<bool, Trouble> {
+    let lines = |printed: &[u8]| -> Vec<String> {
         let lines = printed.split(|&byte| byte == b'\n');
-        lines.map(<[u8]>::to_vec).collect()
+        lines
+            .map(|line| String::from_utf8_lossy(line).into_owned())
+            .collect()
     };
     let (earlier, now) = (lines(earlier), lines(now));
     same("lines", earlier.len(), now.len())?;
     let mut pairs = earlier.iter().zip(&now);
-    match pairs.find(|(earlier, now)| without_train(now) != Some(earlier)) {
-        Some((earlier, now)) => {
-            let [earlier, now] = [earlier, now].map(|line| String::from_utf8_lossy(line));
-            Err(Trouble::new(earlier, now))
-        }
-        None => Ok(()),
+    match pairs.find(|(earlier, now)| earlier != now) {
+        None => Ok(false),
+        Some((earlier, now)) if may_part(earlier, now) => Ok(true),
+        Some((earlier, now)) => Err(Trouble::new(earlier, now)),
     }
 }
 
+/// Whether this line may stand where the earlier box has that one.
+pub fn may_part(earlier: &str, now: &str) -> bool {
+    let point_of = |line: &str| line.strip_prefix("refused 14 point ")?.parse::<u8>().ok();
+    let Some(point) = point_of(earlier) else {
+        return false;
+    };
+    let goes_on = now.starts_with("granted ") || now.starts_with("accident 42 point ");
+    goes_on || point_of(now).is_some_and(|higher| higher > point)
+}
+
 /// The same in lent memory, of which nothing else may have been written.
-fn same_text(earlier: &Lent<u8>, now: &Lent<u8>) -> Finding {
+fn same_text(earlier: &Lent<u8>, now: &Lent<u8>) -> Result<bool, Trouble> {
     same("a call for lines", earlier.reason, now.reason)?;
     for lent in [earlier, now] {
         let is_written = |(at, cell): (usize, &Option<u8>)| cell.is_some() == (at < lent.count);

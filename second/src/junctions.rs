@@ -82,9 +82,11 @@ fn lowest_is_named() -> Session {
         "lowest-is-named",
         "Two lines, each with a facing point, 1 and 5, and a plan that is bad so that 42 can come. \
          Wherever both tracks or points are in the way, the lower one is named: of two tracks \
-         with a train the lower track, with the train on it, whatever its number (13, for a \
-         request and for an entry); of two points that would turn under a train (42), or are held \
-         (14), the lower point. 14 comes before 42, and a route's own hold counts too.",
+         with a train the lower track, with the train on it (13, for a \
+         request and for an entry); of two points that would turn under a train (42), or that are \
+         held and would turn (14), the lower point. 14 comes before 42. A point that is held and \
+         lies as it is wanted is not in the way: near the end route 3 is granted again, though its \
+         own holds are still there; they fall with its cancel all the same.",
         &[
             &[8, 0, 1, 0, 0, 1, 2, 3, 0, 3, 0, 0, 0, 3, 0, 0, 0],
             &[0, 5, 0, 0, 1, 6, 7, 0, 3, 0, 0, 0, 3, 0, 0, 0],
@@ -93,7 +95,7 @@ fn lowest_is_named() -> Session {
             &[1, 2, 5, 6, 2, 5, 6, 0, 0, 0],
             &[0, 2, 1, 3, 2, 1, 5, 1, 5, 1, 1, 0],
             &[0, 2, 1, 3, 0, 0, 2, 1, 5, 0],
-            &[1, 2, 5, 7, 0, 1, 5, 1, 1, 0],
+            &[1, 2, 5, 7, 0, 2, 1, 5, 0, 0],
             &[2, 0, 2, 1, 5, 4, 1, 4],
         ],
         "rule 8 row 2",
@@ -122,8 +124,12 @@ fn lowest_is_named() -> Session {
             ([3, 0, 3], "entered 3 track 0"),
             ([4, 3, 0], "moved 3 from 0 to 1"),
             ([4, 3, 0], "moved 3 from 1 to 3"),
-            // Nothing but its own holds is in the way.
-            ([1, 3, 0], "refused 14 point 1"),
+            // Nothing but its own holds is there, of points that lie as it wants them.
+            ([1, 3, 0], "granted 3"),
+            // They are there once more, and a cancel drops them.
+            ([1, 4, 0], "refused 14 point 1"),
+            ([2, 3, 0], "cancelled 3"),
+            ([1, 4, 0], "granted 4"),
         ],
     )
 }

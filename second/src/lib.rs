@@ -1,6 +1,7 @@
 //! An independent second program for the junction box. The model follows document 01 and of document 02
-//! No. 1, for the plan in memory, and No. 3, for the train that 13 names, alone; its readings of them are
-//! listed in `README.md`, shown at the top of `main.rs`.
+//! No. 1, for the plan in memory, No. 3, for the train that 13 names, and No. 4, for the points that 14 is
+//! for and the routes that hold them, alone; its readings of them are listed in `README.md`, shown at the
+//! top of `main.rs`.
 
 pub mod accepted;
 pub mod bench;
@@ -25,6 +26,7 @@ pub mod program;
 pub mod random;
 pub mod rows;
 pub mod sessions;
+pub mod shared;
 pub mod singles;
 pub mod subject;
 pub mod told;

@@ -98,7 +98,7 @@ fn route_granted() -> Session {
         "The bench plan and a line of its own beside it, from track 4 to the exit 5. Event 1 has \
          route 0 granted, and then 1,000 trains come and go on the line beside. The last four \
          events, 4002 to 4005 (lines 4003 to 4006), are about what event 1 did: point 2 is held \
-         (14), signal 0 is green (12), route 0 can be cancelled, and then route 1 is granted. \
+         and would turn (14), signal 0 is green (12), route 0 can be cancelled, and then route 1 is granted. \
          Without event 1, line 4003 would be `granted 1`.",
         &[
             &[

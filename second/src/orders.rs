@@ -14,8 +14,8 @@ fn requests_and_cancels() -> Session {
         "first-test-of-requests-and-cancels",
         "A line parts at point 1, normal to track 2 and reverse to track 3. Route 0 lists the \
          point normal, routes 1 and 2 list it reverse, and route 3 does not list it; route 2 \
-         alone looks whether the point is clear, and none gives it back. Wherever several tests \
-         apply at once, the first of 11, 12, 13, 14, 42 answers a request, and the first of 11, \
+         alone looks whether the point is clear, and none gives it back, so that route 0 holds it \
+         from event 24 on, lying normal. Wherever several tests apply at once, the first of 11, 12, 13, 14, 42 answers a request, and the first of 11, \
          15, 16 a cancel.",
         &[
             &[4, 0, 1, 0, 0, 1, 2, 3, 0, 3, 0, 0, 0, 3, 0, 0, 0],
@@ -64,8 +64,18 @@ fn requests_and_cancels() -> Session {
             // 13, 14 and 42:
             ([1, 2, 0], "refused 13 track 1 train 3"),
             ([1, 3, 0], "granted 3"),
-            // 12 and 14:
-            ([1, 0, 0], "refused 12"),
+            // Green for route 3. 12, 14 and 42; 12, 13, 14 and 42:
+            ([1, 1, 0], "refused 12"),
+            ([1, 2, 0], "refused 12"),
+            ([4, 2, 0], "left 2 from 2"),
+            ([4, 3, 0], "moved 3 from 1 to 2"),
+            // No train is on the point any more. 11, 12 and 14; 12 and 14:
+            ([1, 1, 7], "refused 11"),
+            ([1, 1, 0], "refused 12"),
+            ([2, 3, 0], "cancelled 3"),
+            // 11 and 14; 14 alone:
+            ([1, 1, 7], "refused 11"),
+            ([1, 1, 0], "refused 14 point 1"),
         ],
     )
 }

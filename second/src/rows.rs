@@ -196,7 +196,8 @@ fn route_rules() -> Vec<Session> {
         session(
             "rule-10-last-row",
             "The bench plan and a line of its own beside it. The last route, 2, lists point 2 off \
-             its path and does not look whether it is clear.",
+             its path and does not look whether the point is clear. While route 1's train is on it \
+             nothing but route 1's hold keeps it from being turned for route 2.",
             &[
                 &[
                     6, 0, 2, 0, 0, 0, 2, 0, 0, 2, 3, 0, 1, 3, 0, 0, 0, 0, 5, 0, 0, 3, 0, 0, 0,
@@ -209,9 +210,9 @@ fn route_rules() -> Vec<Session> {
             ],
             "rule 10 row 2",
             &[
-                ([3, 0, 1], "entered 1 track 0"),
-                ([1, 0, 0], "granted 0"),
-                ([4, 1, 0], "moved 1 from 0 to 2"),
+                ([3, 1, 1], "entered 1 track 1"),
+                ([1, 1, 0], "granted 1"),
+                ([4, 1, 0], "moved 1 from 1 to 2"),
                 ([1, 2, 0], "refused 14 point 2"),
                 ([4, 1, 0], "moved 1 from 2 to 3"),
                 ([1, 2, 0], "granted 2"),

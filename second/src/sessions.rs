@@ -12,6 +12,7 @@ use crate::orders;
 use crate::parts;
 use crate::random::Random;
 use crate::rows;
+use crate::shared;
 use crate::told::told;
 use crate::trains;
 use crate::walks;
@@ -22,7 +23,7 @@ use std::path::Path;
 
 /// Every session: those of the document, the odd ends of files and event lists, the last rows and
 /// the parts of the rules, the files with one bad byte, the small junctions, the walks over lists, the
-/// trains in the way, what is allowed and the long ones.
+/// trains in the way, the holds that are shared, what is allowed and the long ones.
 pub fn all() -> Vec<Session> {
     let mut sessions = document::sessions();
     sessions.extend(odd_plans());
@@ -35,6 +36,7 @@ pub fn all() -> Vec<Session> {
     sessions.extend(orders::sessions());
     sessions.extend(walks::sessions());
     sessions.extend(trains::sessions());
+    sessions.extend(shared::sessions());
     sessions.extend(accepted::sessions());
     sessions.extend(long::sessions());
     sessions

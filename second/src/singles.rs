@@ -1,5 +1,5 @@
 //! Single steps from states that no run from the fresh one comes to: those that are not well formed,
-//! which 10 is for, and two that are well formed all the same. And the text that tells them.
+//! which 10 is for, and some that are well formed all the same. And the text that tells them.
 //!
 //! The states and the lines are written out by hand from the document.
 
@@ -55,6 +55,7 @@ pub fn all() -> Vec<Single> {
     let mut all = states_of_ten();
     all.extend(order_of_ten());
     all.extend(well_formed());
+    all.extend(holds_otherwise());
     all
 }
 
@@ -159,8 +160,8 @@ fn well_formed() -> Vec<Single> {
     };
     vec![
         step(
-            "Well formed, but no events lead here: both routes hold point 2. A cancel drops the \
-             holds of its own route and no other.",
+            "Well formed, but no events lead here: both routes hold point 2, which route 0 lists \
+             normal and route 1 reverse. A cancel drops the holds of its own route and no other.",
             &[2, 0, 0],
             "cancelled 0",
             granted(0b11),
@@ -192,6 +193,101 @@ fn well_formed() -> Vec<Single> {
             "granted 0",
             Arrays::fresh(),
             granted(0b1),
+        ),
+    ]
+}
+
+/// Holds of a point that does not lie as its holder lists it. A route takes its hold when it turns the
+/// point, and as long as it has it no grant turns it again, so that no events lead here.
+fn holds_otherwise() -> Vec<Single> {
+    let held = |lie: u8, holders: u64| {
+        move |state: &mut Arrays| {
+            state.lies[2] = lie;
+            state.holds[2] = holders;
+        }
+    };
+    let on_point = |holders: u64, place: usize| {
+        state(|state| {
+            state.holds[2] = holders;
+            state.trains[place] = 1;
+        })
+    };
+    let granted = state(|state| {
+        state.holds[2] = 0b11;
+        state.signals[0] = 1;
+    });
+    let coming = |is_before: bool| {
+        state(|state| {
+            state.holds[2] = 0b10;
+            match is_before {
+                true => (state.trains[0], state.signals[0]) = (1, 1),
+                false => state.trains[2] = 1,
+            }
+        })
+    };
+    let of_bench = |about, event, line, before, after| Single {
+        about,
+        plan: BENCH_PLAN.to_vec(),
+        state: before,
+        event,
+        line,
+        after,
+    };
+    vec![
+        refused(
+            "Well formed, but no events lead here: route 0 holds point 2, lists it normal, and it \
+             lies reverse. The asking route's own hold counts for 14 like any other.",
+            held(1, 0b1),
+            REQUEST,
+            "refused 14 point 2",
+        ),
+        refused(
+            "Well formed, but no events lead here: route 1 holds point 2, lists it reverse, and it \
+             lies normal. Its own hold is in its way.",
+            held(0, 0b10),
+            &[1, 1, 0],
+            "refused 14 point 2",
+        ),
+        refused(
+            "Well formed, but no events lead here: both routes hold point 2, which lies normal. \
+             Route 1 lists it reverse.",
+            held(0, 0b11),
+            &[1, 1, 0],
+            "refused 14 point 2",
+        ),
+        refused(
+            "Well formed, but no events lead here: both routes hold point 2, which lies reverse. \
+             Route 0 lists it normal.",
+            held(1, 0b11),
+            REQUEST,
+            "refused 14 point 2",
+        ),
+        of_bench(
+            "Well formed, but no events lead here: route 1 holds point 2, lists it reverse, and it \
+             lies normal, as route 0 lists it. It is not in the way of route 0, whoever holds it; \
+             then both hold it.",
+            REQUEST,
+            "granted 0",
+            state(held(0, 0b10)),
+            granted,
+        ),
+        of_bench(
+            "Well formed, but no events lead here: both routes hold point 2, and train 1 stands on \
+             it. Both have point 2 in their release lists with track 3, so that its arrival there \
+             drops both holds.",
+            &[4, 1, 0],
+            "moved 1 from 2 to 3",
+            on_point(0b11, 2),
+            on_point(0, 3),
+        ),
+        of_bench(
+            "Well formed, but no events lead here: route 1 holds point 2, lists it reverse, and it \
+             lies normal. A point leads as it lies, whoever holds it: train 1 comes from its normal \
+             leg, track 0.",
+            &[4, 1, 0],
+            "moved 1 from 0 to 2",
+            coming(true),
+            coming(false),
         ),
     ]
 }

@@ -49,9 +49,9 @@ fn walked_list() -> Session {
          has a train and is not listed does not matter. Route 3 lists the points 2, 3 and 6 \
          normal and 4 and 5 reverse; routes 4 to 11, from the other home, hold one of them or \
          two, and list them the other way, so that from event 67 to 97 points 2, 3 and 6 lie \
-         reverse and 4 and 5 normal. 14, and then 42, name the lowest point that is held, or \
-         would turn under a train, of both lists together: the first of a list, the last or one \
-         between them, the lower one in normal or in reverse. Route 0 lists no point, so that \
+         reverse and 4 and 5 normal. 14, and then 42, name the lowest point of those that \
+         would turn and are held, or have a train, of both lists together: the first of a list, \
+         the last or one between them, the lower one in normal or in reverse. Route 0 lists no point, so that \
          none is in its way, and route 13 lists point 6 alone. Route 12 lists point 2 both ways, \
          and reverse wins: with a train on point 2 it is granted while the point lies reverse \
          (event 70) and is accident 42 while it lies normal (event 101).",
@@ -206,7 +206,7 @@ fn long_list() -> Session {
     // Routes 3 to 5 list the last of these points alone.
     plan.extend([1, 1, 4, 0, 1, 47, 0, 0]);
     plan.extend([1, 1, 4, 0, 0, 1, 47, 0]);
-    plan.extend([1, 1, 4, 0, 0, 1, 63, 0]);
+    plan.extend([1, 1, 4, 0, 1, 63, 0, 0]);
     plan.extend([3, 0]);
     plan.extend(all_tracks());
     plan.extend([47, 0, 63, 0]);
@@ -215,9 +215,10 @@ fn long_list() -> Session {
         "Lists that are as long as they can be: route 0 and entry 0 ask for 64 clear tracks, which are \
          all, route 1 lists 16 points normal and route 2 lists 16 reverse. Whatever is in the way is at \
          the very last place: for 13, and for 42 and 14 of the reverse points (events 1 to 9), then for \
-         14 and 42 of the normal ones (10 to 18; events 13 and 14 leave point 47 reverse, so that route \
-         1 would turn it back). Then, for the clear lists, it is at the first place. In the end route 1 \
-         is granted: none of its 16 points is in the way, and its clear list is empty.",
+         14 and 42 of the normal ones (10 to 20; event 14 turns point 47 reverse, so that route 1 would \
+         turn it back). In event 11 point 47 is held, but lies as route 1 wants it, and is not in the way. \
+         Then, for the clear lists (21 to 23), what is in the way is at the first place. In the end route 1 is granted: none of its \
+         16 points is in the way, and its clear list is empty.",
         &[&plan],
         "rule 3 row 1",
         &[
@@ -230,11 +231,14 @@ fn long_list() -> Session {
             ([1, 5, 0], "granted 5"),
             ([1, 2, 0], "refused 14 point 63"),
             ([2, 5, 0], "cancelled 5"),
+            // Point 47 is held and lies right.
             ([1, 3, 0], "granted 3"),
-            ([1, 1, 0], "refused 14 point 47"),
+            ([1, 1, 0], "granted 1"),
+            ([2, 1, 0], "cancelled 1"),
             ([2, 3, 0], "cancelled 3"),
-            // Turned reverse and given back, so that route 1 would turn it.
+            // Turned reverse, so that route 1 would turn it: held, and then given back.
             ([1, 4, 0], "granted 4"),
+            ([1, 1, 0], "refused 14 point 47"),
             ([2, 4, 0], "cancelled 4"),
             ([3, 1, 1], "entered 1 track 47"),
             ([1, 1, 0], "accident 42 point 47"),

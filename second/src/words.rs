@@ -12,7 +12,7 @@ pub const USAGE: &str =
        second --list DIR                   print the list of wrong definitions, definitions.txt
        second --steps                      print the text of the single steps, steps.txt
        second --bench [LIBRARY]            print times, those of another box's shared library too
-       second --earlier LIBRARY [--seed N] compare the box with an earlier one, the train of 13 dropped
+       second --earlier LIBRARY [--seed N] compare the box with an earlier one, event by event
        second --limits                     print the sizes that it goes by
        second sessions DIR                 write the session folders
        second run                          read plan.bin and events like the program itself

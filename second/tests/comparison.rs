@@ -59,6 +59,54 @@ fn the_three_slips_are_caught_from_outside_alone() {
     }
 }
 
+/// Wrong 14s and holds that show from outside, and what is found then.
+const HOLDS: [(&str, &str); 9] = [
+    ("14 by routes of lower numbers", LIE),
+    ("14 by routes from the same signal", LIE),
+    ("14 where one route holds the point, not several", LIE),
+    ("a grant leaves its own hold alone", HISTORY),
+    ("a grant takes no hold of a point that is held", HISTORY),
+    (
+        "an arrival drops all holds where the route has one",
+        HISTORY,
+    ),
+    ("an arrival drops a hold where it is the only one", HISTORY),
+    ("a cancel drops other routes' holds", HISTORY),
+    ("a cancel drops no hold that is shared", HISTORY),
+];
+const LIE: &str = "a holder of a point does not list it in its lie";
+const HISTORY: &str = "the holds are not those of history";
+
+#[test]
+fn shared_holds_are_looked_at_from_outside_alone() {
+    for (name, words) in HOLDS {
+        let book = mutant(name);
+        let mut found = (0..2_000).filter_map(|seed| outside(&book, seed).err());
+        let caught = found.any(|found| found.contains(words));
+        assert!(caught, "{name}");
+    }
+}
+
+/// A 14 that looks at what two agreeing states need not have in common: the holders' signals.
+#[test]
+fn a_14_that_looks_elsewhere_tells_agreeing_states_apart() {
+    let told_apart = |book: &Book| {
+        (0..5_000).any(|seed| {
+            let case = case(seed);
+            let mut ready = book.prepare(&case.plan);
+            let mut pairs = case.pairs.iter();
+            pairs.any(|pair| check_agreement(ready.as_mut(), pair).is_err())
+        })
+    };
+    assert!(!told_apart(&MODEL));
+    for name in [
+        "14 by routes whose signal is green",
+        "14 by routes whose signal is no more green",
+    ] {
+        assert!(told_apart(&mutant(name)), "{name}");
+    }
+}
+
 /// Wrong writers and loaders that show when a plan is loaded and written again.
 const LOADED_AND_WRITTEN: [&str; 10] = [
     "write says 7 for everything",
@@ -227,8 +275,13 @@ fn with_the_train_dropped_all_is_as_before() {
 #[test]
 fn a_wrong_train_is_caught_where_13_is_said() {
     for mutant in mutants::wrong_trains() {
-        let (_, mismatch) = hunt(&mutant.book, 1, 3000).expect("it is caught");
-        let found = mismatch.trouble.found;
+        let mut found = (1..=9).map(|seed| {
+            let (_, mismatch) = hunt(&mutant.book, seed, 3000).expect("it is caught");
+            mismatch.trouble.found
+        });
+        // A single byte of a line does not say which line it is of.
+        let found = found.find(|found| !found.starts_with("cell "));
+        let found = found.expect("a line or a code is another");
         assert!(found.contains("refused 13"), "{}: {found}", mutant.name);
     }
 }
@@ -417,10 +470,17 @@ fn the_rarest_length_and_the_rarest_number_must_be_reached_too() {
     assert!(too_rare(&counts).is_empty());
     let ends = [(1, 64), (1, 64), (1, 16), (1, 16), (1, 16), (1, 16)];
     let ends = ends.into_iter().chain([(0, 47), (0, 15), (0, 47), (0, 47)]);
+    let ends = ends.chain([(2, 16), (2, 16), (0, 47), (0, 47), (0, 47), (0, 47)]);
+    let ends = ends
+        .chain([(1, 48); 5])
+        .chain([(1, 32); 3])
+        .chain([(1, 64)]);
     let ends = ends.chain([(1, 255), (1, 255), (0, 63), (0, 63)]);
+    assert_eq!(ends.clone().count(), counts.spread.len());
     for (family, (first, last)) in ends.enumerate() {
         for member in [first, last] {
-            counts.spread[family][member] = 99;
+            // Of holds that fall at a cancel 25 are enough.
+            counts.spread[family][member] = if family == 24 { 24 } else { 99 };
             let names = too_rare(&counts);
             assert_eq!(names.len(), 1, "{names:?}");
             assert!(names[0].contains(&format!(" {member}")), "{names:?}");

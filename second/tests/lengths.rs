@@ -9,7 +9,7 @@ use second::model::answer::{Accident, Answer, Refusal};
 use second::model::plan::{Plan, CLEAR, POINTS};
 use second::model::reading::read;
 use second::model::state::State;
-use second::model::step::{enter, grant, lowest_derailed, lowest_held, step};
+use second::model::step::{enter, grant, lowest_derailed, lowest_held_otherwise, step};
 use second::random::Random;
 use std::collections::BTreeSet;
 
@@ -19,7 +19,7 @@ type Step = fn(&Plan, &mut State, &[u8]) -> Answer;
 const CASES: usize = 2_000;
 
 /// More than all lengths of all lists take.
-const CASES_FOR_ALL: usize = 5_000;
+const CASES_FOR_ALL: usize = 8_000;
 
 fn is_caught(step: Step) -> bool {
     let book = Book { step, ..MODEL };
@@ -80,7 +80,7 @@ fn request(walk: Walk, length: usize, plan: &Plan, state: &mut State, number: us
         Answer::Refused(Refusal::SignalNotRed)
     } else if let Some(found) = state.first_train_on(&clear.clear) {
         Answer::in_the_way(found)
-    } else if let Some(point) = lowest_held(state, &held) {
+    } else if let Some(point) = lowest_held_otherwise(state, &held) {
         Answer::Refused(Refusal::PointHeld { point })
     } else if let Some(point) = lowest_derailed(state, &derailed) {
         Answer::Accident(Accident::Derailment { point })

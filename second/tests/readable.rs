@@ -5,8 +5,10 @@ use second::book::MODEL;
 use second::definitions::folders::{self, Folder};
 use second::definitions::{all, held, list, shown, singles, too_strict, Definition, Held};
 use second::document::Session;
+use second::singles::{due as due_of, outcome};
+use second::subject::Subject;
 use second::{
-    accepted, forms, junctions, mutants, numbers, orders, parts, sessions, trains, walks,
+    accepted, forms, junctions, mutants, numbers, orders, parts, sessions, shared, trains, walks,
 };
 use std::collections::{BTreeMap, BTreeSet};
 use std::path::{Path, PathBuf};
@@ -167,7 +169,7 @@ fn what_no_session_shows_is_said_of_mutants_that_there_are() {
     let by_cases = mutants
         .iter()
         .filter(|mutant| held(mutant) == Held::ByCases);
-    assert_eq!(by_cases.count(), 18);
+    assert_eq!(by_cases.count(), 28);
     let folders = in_full();
     for mutant in mutants
         .iter()
@@ -266,6 +268,31 @@ fn every_wrong_train_shows_in_a_line_of_13() {
     );
 }
 
+/// A wrong hold shows in a session or, where no run comes to such a state, in a single step alone.
+#[test]
+fn every_wrong_hold_shows_in_a_session_or_a_step() {
+    let (folders, steps) = (in_full(), second::singles::all());
+    let mut in_steps_alone = BTreeSet::new();
+    let wrong = mutants::wrong_holds();
+    for one in &wrong {
+        let prints_another =
+            |folder: &Folder| one.book.run(&folder.plan, &folder.events) != folder.expected;
+        if !folders.iter().any(prints_another) {
+            let shows = steps
+                .iter()
+                .any(|step| outcome(&one.book, step) != due_of(step));
+            assert!(shows, "{}", one.name);
+            in_steps_alone.insert(one.name);
+        }
+    }
+    assert_eq!((wrong.len(), in_steps_alone.len()), (122, 10));
+    let by_cases = wrong.iter().filter(|one| held(one) == Held::ByCases);
+    assert_eq!(
+        by_cases.map(|one| one.name).collect::<BTreeSet<_>>(),
+        in_steps_alone
+    );
+}
+
 #[test]
 fn no_small_session_can_be_left_out() {
     let small = [
@@ -275,6 +302,7 @@ fn no_small_session_can_be_left_out() {
         orders::sessions(),
         walks::sessions(),
         trains::sessions(),
+        shared::sessions(),
         parts::sessions(),
         accepted::sessions(),
     ]

@@ -222,9 +222,48 @@ fn all_holds_of_a_route_fall_with_its_cancel_and_no_others() {
     );
     assert!(!state.holds[2].contains(0));
     assert!(state.holds[2].contains(1));
-    // Route 1's own hold counts against itself.
+    // Route 1's own hold counts against itself, since it wants the point reverse.
     let held = Answer::Refused(Refusal::PointHeld { point: 2 });
     assert_eq!(step(&plan, &mut state, &[1, 1, 0]), held);
+}
+
+#[test]
+fn a_held_point_is_in_the_way_if_it_would_turn_whoever_holds_it() {
+    let plan = bench();
+    let held = Answer::Refused(Refusal::PointHeld { point: 2 });
+    for holders in [&[0][..], &[1], &[0, 1]] {
+        for (lie, refused, granted) in [(Lie::Normal, 1, 0), (Lie::Reverse, 0, 1)] {
+            let mut state = State::fresh(&plan);
+            state.lies[2] = lie;
+            holders
+                .iter()
+                .for_each(|&route| state.holds[2].insert(route));
+            let before = state.clone();
+            assert_eq!(step(&plan, &mut state, &[1, refused, 0]), held);
+            assert_eq!(state, before);
+            let route = usize::from(granted);
+            let answer = step(&plan, &mut state, &[1, granted, 0]);
+            assert_eq!(answer, Answer::Granted { route });
+            // Its hold is added to theirs, and the lie stays.
+            let all = [0, 1].into_iter();
+            let all = all.filter(|other| *other == route || holders.contains(other));
+            assert!(state.holds[2].routes().eq(all));
+            assert_eq!(state.lies[2], lie);
+        }
+    }
+}
+
+#[test]
+fn a_held_point_of_both_lists_is_in_the_way_if_it_lies_normal() {
+    let mut plan = bench();
+    plan.routes[0].reverse = vec![2];
+    let mut state = State::fresh(&plan);
+    state.holds[2].insert(1);
+    let held = Answer::Refused(Refusal::PointHeld { point: 2 });
+    assert_eq!(step(&plan, &mut state, &[1, 0, 0]), held);
+    state.lies[2] = Lie::Reverse;
+    let granted = Answer::Granted { route: 0 };
+    assert_eq!(step(&plan, &mut state, &[1, 0, 0]), granted);
 }
 
 #[test]

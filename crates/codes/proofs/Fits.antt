@@ -25,7 +25,7 @@ use Rattle.events.specs.declared.Met.the-variants.{Train}
 use Rattle.events.specs.declared.Answer.{Answer}
 use Rattle.events.specs.Answers.{refusalValues, harmValues, deedValues, answerValues}
 use Rattle.events.specs.Events.{eventOf, firstEvent, eventsOf}
-use Rattle.events.specs.Decide.{hasTrain, isRed, isGreen, isReverse, busy, heldListed, derails, stands, busyTrain, heldPoint, derailedPoint, frontOf, inPlan, wayOut, runsThrough}
+use Rattle.events.specs.Decide.{hasTrain, isRed, isGreen, isReverse, busy, heldOther, derails, stands, busyTrain, heldPoint, derailedPoint, frontOf, inPlan, wayOut, runsThrough}
 use Rattle.events.specs.Decide.{answerRequest, answerCancel, answerEnter, moveTo, moveFrom, answerMove, decided, answer}
 use Rattle.events.proofs.Facts.{getD-none, few-tracks, few-signals, few-routes, home-below, start-below, entry-below, out-below}
 use Rattle.events.proofs.Busy.{unless-train-ind, busy-train-at}
@@ -103,7 +103,7 @@ module _ (p : Plan) (R : Readable p) (σ : State) (bytes : All Byte (σ .trains)
   request-fits r h =
       cond-ind Fit (isRed (σ .signals) (routeOf p r .start))
       (λ _. unless-train-ind Fit _ _ _ (λ u train e. let (track, train) = busy-byte (routeOf p r .clear) e in (track, (train, tt)))
-      (λ _. unless-ind Fit _ _ _ (λ q e. (track-byte q (lowest-at _ (heldListed (routeOf p r .normal) (routeOf p r .reverse) (σ .holds)) e .below), tt))
+      (λ _. unless-ind Fit _ _ _ (λ q e. (track-byte q (lowest-at _ (heldOther (routeOf p r .normal) (routeOf p r .reverse) (σ .lies) (σ .holds)) e .below), tt))
       (λ _. unless-ind Fit _ _ _ (λ q e. (track-byte q (lowest-at _ (derails (routeOf p r .normal) (routeOf p r .reverse) (σ .trains) (σ .lies)) e .below), tt))
       (λ _. (route-byte r h, tt)))))
       (λ _. tt)

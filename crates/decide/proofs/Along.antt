@@ -19,10 +19,10 @@ use Rattle.plan.specs.File.{Rises, Readable}
 use Rattle.plan.proofs.Says.{point-below}
 use Rattle.state.specs.State.{noTrain}
 use Rattle.events.specs.declared.Met.the-variants.{Train, Nobody}
-use Rattle.events.specs.Decide.{hasTrain, busy, withTrain, busyTrain, heldListed, heldPoint, derails, derailedPoint}
+use Rattle.events.specs.Decide.{hasTrain, isHeld, busy, withTrain, busyTrain, turns, heldOther, heldPoint, derails, derailedPoint}
 use Rattle.events.proofs.Facts.{rises-lt, route-read, entry-read}
-use Rattle.decide.proofs.Cells.{derails-listed}
-use Rattle.decide.specs.Along.{RisingTracks, firstOf, lower, held}
+use Rattle.decide.proofs.Cells.{turns-listed}
+use Rattle.decide.specs.Along.{RisingTracks, firstOf, lower}
 
 -- A walk in code: what is left of the list from its place i on finds what the list from its start on does.
 pub record Walked (f : ℕ → Bool) (l : List ℕ) (start i : ℕ) : Type 0 where
@@ -166,13 +166,17 @@ module _ (n : ℕ) (normal reverse : List ℕ) (w : RisingTracks n normal) (v : 
       apart true b c = refl
       apart false b c = refl
 
-  pub held-first : (holds : List ℕ) → heldPoint n normal reverse holds ≡ lower (firstOf (held holds) normal) (firstOf (held holds) reverse)
-  unfolding heldPoint heldListed held
-  held-first holds = listed-first (held holds)
+  -- a test of points that would be turned: these are listed
+  turned-first : (lies : List ℕ) (f : ℕ → Bool) → let g : ℕ → Bool = λ q. f q && turns normal reverse lies q in lowest n g ≡ lower (firstOf g normal) (firstOf g reverse)
+  turned-first lies f = lowest-same n _ _ (λ q _. turns-listed normal reverse lies q (f q)) ∙ listed-first (λ q. f q && turns normal reverse lies q)
+
+  pub held-first : (lies holds : List ℕ) → let f = heldOther normal reverse lies holds in heldPoint n normal reverse lies holds ≡ lower (firstOf f normal) (firstOf f reverse)
+  unfolding heldPoint heldOther
+  held-first lies holds = turned-first lies (isHeld holds)
 
   pub derailed-first : (trains lies : List ℕ) → let f = derails normal reverse trains lies in derailedPoint n normal reverse trains lies ≡ lower (firstOf f normal) (firstOf f reverse)
-  unfolding derailedPoint
-  derailed-first trains lies = lowest-same n _ _ (λ q _. derails-listed normal reverse trains lies q) ∙ listed-first (derails normal reverse trains lies)
+  unfolding derailedPoint derails
+  derailed-first trains lies = turned-first lies (hasTrain trains)
 
 -- The lists of a plan that can be read rise, and their numbers are tracks.
 module _ {p : Plan} (R : Readable p) {r : ℕ} (h : r < length (p .routes)) where

@@ -15,9 +15,9 @@ use Rattle.plan.specs.Kinds.{legged, out, leg}
 use Rattle.plan.specs.Records.{Plan, trackOf}
 use Rattle.plan.specs.Layout.{signalAt}
 use Rattle.plan.specs.Routes.{listed}
-use Rattle.events.specs.Decide.{hasTrain, isRed, isReverse, lieAfter, derails, redAt, wayOut, runsThrough}
+use Rattle.events.specs.Decide.{isRed, isReverse, lieAfter, turns, redAt, wayOut, runsThrough}
 
--- 42: a point that has a train gets another lie in the end.
+-- 14 and 42: a point that would get another lie in the end.
 
 eqb-swap : (m n : ℕ) → eqb m n ≡ eqb n m
 eqb-swap m n = elim (split (eqb m n)) [
@@ -25,39 +25,41 @@ eqb-swap m n = elim (split (eqb m n)) [
   | inr e ↦ e ∙ sym (ne-eqb n m (λ q. eqb-false m n e (sym q)))
 ]
 
-module _ (normal reverse trains lies : List ℕ) (q : ℕ) where
-  pub derails-free : getD trains q 0 ≡ 0 → false ≡ derails normal reverse trains lies q
-  unfolding derails hasTrain
-  derails-free z = rw (eq-eqb (getD trains q 0) 0 z)
+module _ (normal reverse lies : List ℕ) (q : ℕ) where
+  pub turns-reverse : has q reverse ≡ true → not (eqb (getD lies q 0) 1) ≡ turns normal reverse lies q
+  unfolding turns lieAfter
+  turns-reverse r = rw (r, eqb-swap (getD lies q 0) 1)
 
-  module _ (z : getD trains q 0 ≢ 0) where
-    pub derails-reverse : has q reverse ≡ true → not (eqb (getD lies q 0) 1) ≡ derails normal reverse trains lies q
-    unfolding derails hasTrain lieAfter
-    derails-reverse r = rw (ne-eqb (getD trains q 0) 0 z, r, eqb-swap (getD lies q 0) 1)
+  module _ (r : has q reverse ≡ false) where
+    pub turns-normal : has q normal ≡ true → not (eqb (getD lies q 0) 0) ≡ turns normal reverse lies q
+    unfolding turns lieAfter
+    turns-normal n = rw (r, n, eqb-swap (getD lies q 0) 0)
 
-    module _ (r : has q reverse ≡ false) where
-      pub derails-normal : has q normal ≡ true → not (eqb (getD lies q 0) 0) ≡ derails normal reverse trains lies q
-      unfolding derails hasTrain lieAfter
-      derails-normal n = rw (ne-eqb (getD trains q 0) 0 z, r, n, eqb-swap (getD lies q 0) 0)
+    pub turns-unlisted : has q normal ≡ false → false ≡ turns normal reverse lies q
+    unfolding turns lieAfter
+    turns-unlisted n = rw (r, n, eq-eqb (getD lies q 0) (getD lies q 0) refl)
 
-      pub derails-unlisted : has q normal ≡ false → false ≡ derails normal reverse trains lies q
-      unfolding derails hasTrain lieAfter
-      derails-unlisted n = rw (ne-eqb (getD trains q 0) 0 z, r, n, eq-eqb (getD lies q 0) (getD lies q 0) refl)
-
--- A point that derails is listed: any other keeps its lie.
+-- A point that would be turned is listed: any other keeps its lie.
 same-and : (a b : Bool) → (Is a → Is b) → a ≡ (a && b)
 same-and true b h = sym (h refl)
 same-and false b h = refl
 
-pub derails-listed : (normal reverse trains lies : List ℕ) (q : ℕ) → derails normal reverse trains lies q ≡ (derails normal reverse trains lies q && listed normal reverse q)
-unfolding derails lieAfter listed
-derails-listed normal reverse trains lies q = same-and _ _ (λ t. elim (split (has q reverse)) [
+pub turns-listed : (normal reverse lies : List ℕ) (q : ℕ) (b : Bool) → (b && turns normal reverse lies q) ≡ ((b && turns normal reverse lies q) && listed normal reverse q)
+unfolding listed
+turns-listed normal reverse lies q b = same-and _ _ (λ t. elim (split (has q reverse)) [
   | inl r ↦ or-r (has q normal) (has q reverse) r
   | inr r ↦ elim (split (has q normal)) [
     | inl n ↦ or-l (has q normal) (has q reverse) n
-    | inr n ↦ clash (and-r (hasTrain trains q) _ t) (rw (r, n, eq-eqb (getD lies q 0) (getD lies q 0) refl))
+    | inr n ↦ clash (and-r b _ t) (sym (turns-unlisted normal reverse lies q r n))
   ]
 ])
+
+-- Two tests, one after the other: the second is made where the first says yes.
+pub and-no : {a c : Bool} (b : Bool) → c ≡ a → c ≡ false → c ≡ (a && b)
+and-no b e n = rw (← e, n)
+
+pub and-yes : {a b c d : Bool} → c ≡ a → c ≡ true → d ≡ b → d ≡ (a && b)
+and-yes e y f = rw (← e, y, f)
 
 -- 19: the signal at a track's end, if it is red.
 module _ (p : Plan) (signals : List ℕ) (u : ℕ) {found : Found} (f : found ≡ signalAt p u) where

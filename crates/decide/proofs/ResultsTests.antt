@@ -10,8 +10,8 @@ use Rattle.laws.specs.Search.{lowest}
 use Rattle.plan.specs.Layout.{signalAt}
 use Rattle.plan.specs.Image.{planOf}
 use Rattle.state.specs.Cells.{trainsIn, liesIn, signalsIn}
-use Rattle.decide.specs.Along.{firstOf, lower, held}
-use Rattle.events.specs.Decide.{hasTrain, isReverse, derails, stands, withTrain, busyTrain, heldPoint, derailedPoint, redAt, wayOut, runsThrough}
+use Rattle.decide.specs.Along.{firstOf, lower}
+use Rattle.events.specs.Decide.{hasTrain, isReverse, isHeld, turns, heldOther, derails, stands, withTrain, busyTrain, heldPoint, derailedPoint, redAt, wayOut, runsThrough}
 
 pub has-train-once : (cells : List ℕ) (track : ℕ) (r r₂ : Bool)
     → (r ≡ hasTrain (trainsIn cells) track)
@@ -44,22 +44,34 @@ pub lower-once : (one other r r₂ : Found)
 lower-once one other r r₂ by-one by-other = equal-once _ _ _ by-one by-other
 
 pub is-held-once : (holds : List ℕ) (point : ℕ) (r r₂ : Bool)
-    → (r ≡ held holds point)
-    → (r₂ ≡ held holds point)
+    → (r ≡ isHeld holds point)
+    → (r₂ ≡ isHeld holds point)
     → r is r₂
 is-held-once holds point r r₂ by-one by-other = equal-once _ _ _ by-one by-other
 
-pub held-in-once : (points holds : List ℕ) (r r₂ : Found)
-    → (r ≡ firstOf (held holds) points)
-    → (r₂ ≡ firstOf (held holds) points)
+pub turns-once : (normal reverse cells : List ℕ) (point : ℕ) (r r₂ : Bool)
+    → (r ≡ turns normal reverse (liesIn cells) point)
+    → (r₂ ≡ turns normal reverse (liesIn cells) point)
     → r is r₂
-held-in-once points holds r r₂ by-one by-other = equal-once _ _ _ by-one by-other
+turns-once normal reverse cells point r r₂ by-one by-other = equal-once _ _ _ by-one by-other
 
-pub held-point-once : (count : ℕ) (normal reverse holds : List ℕ) (r r₂ : Found)
-    → (r ≡ heldPoint count normal reverse holds)
-    → (r₂ ≡ heldPoint count normal reverse holds)
+pub held-other-once : (normal reverse cells holds : List ℕ) (point : ℕ) (r r₂ : Bool)
+    → (r ≡ heldOther normal reverse (liesIn cells) holds point)
+    → (r₂ ≡ heldOther normal reverse (liesIn cells) holds point)
     → r is r₂
-held-point-once count normal reverse holds r r₂ by-one by-other = equal-once _ _ _ by-one by-other
+held-other-once normal reverse cells holds point r r₂ by-one by-other = equal-once _ _ _ by-one by-other
+
+pub held-in-once : (points normal reverse cells holds : List ℕ) (r r₂ : Found)
+    → (r ≡ firstOf (heldOther normal reverse (liesIn cells) holds) points)
+    → (r₂ ≡ firstOf (heldOther normal reverse (liesIn cells) holds) points)
+    → r is r₂
+held-in-once points normal reverse cells holds r r₂ by-one by-other = equal-once _ _ _ by-one by-other
+
+pub held-point-once : (count : ℕ) (normal reverse cells holds : List ℕ) (r r₂ : Found)
+    → (r ≡ heldPoint count normal reverse (liesIn cells) holds)
+    → (r₂ ≡ heldPoint count normal reverse (liesIn cells) holds)
+    → r is r₂
+held-point-once count normal reverse cells holds r r₂ by-one by-other = equal-once _ _ _ by-one by-other
 
 pub derails-once : (normal reverse cells : List ℕ) (point : ℕ) (r r₂ : Bool)
     → (r ≡ derails normal reverse (trainsIn cells) (liesIn cells) point)

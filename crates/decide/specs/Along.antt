@@ -1,14 +1,12 @@
 -- What a walk along a list finds: the first for which a test says yes. On a list that rises it is the lowest.
-use mathlib.Core.Bool.{Bool, not, cond}
+use mathlib.Core.Bool.{Bool, cond}
 use mathlib.Core.List.{List, [], _∷_}
 use Prim.Native.Nat.{ℕ, _<_}
-use lib.ListN.{getD}
 use lib.Dec.{ltb}
 use Rattle.laws.specs.declared.Found.{Found}
 use Rattle.laws.specs.declared.Found.the-variants.{At, Nothing}
 use Rattle.laws.specs.Lists.{All}
 use Rattle.plan.specs.File.{Rises}
-use Rattle.state.specs.Holds.{empty}
 
 -- the first number of a list for which a test says yes: of an empty list there is none
 unfoldable pub firstOf : (ℕ → Bool) → List ℕ → Found
@@ -25,7 +23,3 @@ lower (At x) (At y) = cond (ltb y x) (At y) (At x)
 pub record RisingTracks (tracks : ℕ) (l : List ℕ) : Type 0 where
   pub each : All (λ u. u < tracks) l
   pub rises : Rises l
-
--- some route holds the point: what `heldListed` of events/specs/Decide.antt asks of a listed point
-unfoldable pub held : List ℕ → ℕ → Bool
-held holds q = not (empty (getD holds q 0))

@@ -66,7 +66,7 @@ fn decide_request(
     }
     let normal = normal_of(image, route);
     let reverse = reverse_of(image, route);
-    let held = held_point(count, normal, reverse, holds);
+    let held = held_point(count, normal, reverse, cells, holds);
     if let Found::At(point) = held {
         return Answer::Refused(Refusal::Held(point));
     }

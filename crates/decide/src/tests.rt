@@ -24,8 +24,8 @@ ghost use Rattle.plan.specs.Limits.{mostTracks};
 ghost use Rattle.plan.specs.Layout.{signalAt};
 ghost use Rattle.plan.specs.Image.{planOf};
 ghost use Rattle.state.specs.Cells.{trainsIn, liesIn, signalsIn};
-ghost use Rattle.decide.specs.Along.{RisingTracks, firstOf, lower, held};
-ghost use Rattle.events.specs.Decide.{hasTrain, isReverse, derails, stands, withTrain, busyTrain, heldPoint, derailedPoint, redAt, wayOut, runsThrough};
+ghost use Rattle.decide.specs.Along.{RisingTracks, firstOf, lower};
+ghost use Rattle.events.specs.Decide.{hasTrain, isReverse, isHeld, turns, heldOther, derails, stands, withTrain, busyTrain, heldPoint, derailedPoint, redAt, wayOut, runsThrough};
 
 // Whether a track has a train.
 pub fn has_train(cells: &[u8; CELLS], track: usize) -> bool
@@ -88,7 +88,7 @@ fn lower(one: Found, other: Found) -> Found
 // Whether some route holds a point.
 fn is_held(holds: &[u64; TRACKS], point: usize) -> bool
     requires { ⌜ point < mostTracks ⌝ }
-    ensures { λ r. ⌜ r ≡ held (now (holds .entry)) point ⌝ }
+    ensures { λ r. ⌜ r ≡ isHeld (now (holds .entry)) point ⌝ }
 {
     let holders = HoldSet {
         routes: holds[point],
@@ -96,38 +96,11 @@ fn is_held(holds: &[u64; TRACKS], point: usize) -> bool
     !holders.is_empty()
 }
 
-// The first point of a list that some route holds.
-fn held_in(points: &[u8], holds: &[u64; TRACKS]) -> Found
-    requires { ⌜ All (λ q. q < mostTracks) (now points) ⌝ }
-    ensures { λ r. ⌜ r ≡ firstOf (held (now (holds .entry))) (now (points .entry)) ⌝ }
-{
-    let mut i = 0;
-    while i < points.len() {
-        let point = wide(points[i]);
-        if is_held(holds, point) {
-            return Found::At(point);
-        }
-        i += 1;
-    }
-    Found::Nothing
-}
-
-// 14: the lowest listed point that some route holds.
-pub fn held_point(count: usize, normal: &[u8], reverse: &[u8], holds: &[u64; TRACKS]) -> Found
-    requires { ⌜ (count ≤ mostTracks) × RisingTracks count (now normal) × RisingTracks count (now reverse) ⌝ }
-    ensures { λ r. ⌜ r ≡ heldPoint count (now (normal .entry)) (now (reverse .entry)) (now (holds .entry)) ⌝ }
-{
-    lower(held_in(normal, holds), held_in(reverse, holds))
-}
-
-// Whether a point has a train and gets another lie in the end. Reverse wins.
-fn derails(normal: &[u8], reverse: &[u8], cells: &[u8; CELLS], point: usize) -> bool
+// Whether a point lies otherwise than a grant would leave it, for 14 and for 42. Reverse wins.
+fn turns(normal: &[u8], reverse: &[u8], cells: &[u8; CELLS], point: usize) -> bool
     requires { ⌜ point < mostTracks ⌝ }
-    ensures { λ r. ⌜ r ≡ derails (now (normal .entry)) (now (reverse .entry)) (trainsIn (now (cells .entry))) (liesIn (now (cells .entry))) point ⌝ }
+    ensures { λ r. ⌜ r ≡ turns (now (normal .entry)) (now (reverse .entry)) (liesIn (now (cells .entry))) point ⌝ }
 {
-    if train_at(cells, point) == 0 {
-        return false;
-    }
     if has(reverse, point) {
         return lie_at(cells, point) != 1;
     }
@@ -137,7 +110,68 @@ fn derails(normal: &[u8], reverse: &[u8], cells: &[u8; CELLS], point: usize) -> 
     false
 }
 
+// Whether some route holds a point, the one that asks or another, and the point lies otherwise than the grant would leave it.
+fn held_other(
+    normal: &[u8],
+    reverse: &[u8],
+    cells: &[u8; CELLS],
+    holds: &[u64; TRACKS],
+    point: usize,
+) -> bool
+    requires { ⌜ point < mostTracks ⌝ }
+    ensures { λ r. ⌜ r ≡ heldOther (now (normal .entry)) (now (reverse .entry)) (liesIn (now (cells .entry))) (now (holds .entry)) point ⌝ }
+{
+    is_held(holds, point) && turns(normal, reverse, cells, point)
+}
+
 // The first point of a list that is so. Which lie it gets is asked of both lists.
+fn held_in(
+    points: &[u8],
+    normal: &[u8],
+    reverse: &[u8],
+    cells: &[u8; CELLS],
+    holds: &[u64; TRACKS],
+) -> Found
+    requires { ⌜ All (λ q. q < mostTracks) (now points) ⌝ }
+    ensures { λ r. ⌜ r ≡ firstOf (heldOther (now (normal .entry)) (now (reverse .entry)) (liesIn (now (cells .entry))) (now (holds .entry))) (now (points .entry)) ⌝ }
+{
+    let mut i = 0;
+    while i < points.len() {
+        let point = wide(points[i]);
+        if held_other(normal, reverse, cells, holds, point) {
+            return Found::At(point);
+        }
+        i += 1;
+    }
+    Found::Nothing
+}
+
+// 14: the lowest listed point that some route holds and that lies otherwise than the grant would leave it.
+pub fn held_point(
+    count: usize,
+    normal: &[u8],
+    reverse: &[u8],
+    cells: &[u8; CELLS],
+    holds: &[u64; TRACKS],
+) -> Found
+    requires { ⌜ (count ≤ mostTracks) × RisingTracks count (now normal) × RisingTracks count (now reverse) ⌝ }
+    ensures { λ r. ⌜ r ≡ heldPoint count (now (normal .entry)) (now (reverse .entry)) (liesIn (now (cells .entry))) (now (holds .entry)) ⌝ }
+{
+    lower(
+        held_in(normal, normal, reverse, cells, holds),
+        held_in(reverse, normal, reverse, cells, holds),
+    )
+}
+
+// Whether a point has a train and gets another lie in the end.
+fn derails(normal: &[u8], reverse: &[u8], cells: &[u8; CELLS], point: usize) -> bool
+    requires { ⌜ point < mostTracks ⌝ }
+    ensures { λ r. ⌜ r ≡ derails (now (normal .entry)) (now (reverse .entry)) (trainsIn (now (cells .entry))) (liesIn (now (cells .entry))) point ⌝ }
+{
+    has_train(cells, point) && turns(normal, reverse, cells, point)
+}
+
+// The first point of a list that derails.
 fn derailed_in(points: &[u8], normal: &[u8], reverse: &[u8], cells: &[u8; CELLS]) -> Found
     requires { ⌜ All (λ q. q < mostTracks) (now points) ⌝ }
     ensures { λ r. ⌜ r ≡ firstOf (derails (now (normal .entry)) (now (reverse .entry)) (trainsIn (now (cells .entry))) (liesIn (now (cells .entry)))) (now (points .entry)) ⌝ }

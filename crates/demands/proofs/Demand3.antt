@@ -1,6 +1,8 @@
 -- A box that obeys the written rules is safe on every accepted plan: along a run each step keeps the state well formed, the invariant and what
 -- demand 3 says of the answers so far.
 use mathlib.Core.Path.{_≡_, refl, ap, subst}
+use mathlib.Core.Bool.{true, false}
+use mathlib.Core.Logic.{inl, inr, _↔_}
 use mathlib.Core.List.{List, [], _∷_, _++_, append-assoc, append-nil}
 use Prim.Native.Nat.{ℕ, zero, suc}
 use native.Mathlib.Omega.{arith}
@@ -8,10 +10,11 @@ use lib.ListN.{take}
 use Rattle.laws.specs.Tests.{never}
 use Rattle.laws.specs.Lists.{All}
 use Rattle.plan.specs.Records.{Plan}
+use Rattle.plan.specs.Routes.{pointsOf, Listed}
 use Rattle.plan.specs.File.{Readable}
 use Rattle.rules.specs.Verdict.{Sound}
 use Rattle.state.specs.declared.State.{State}
-use Rattle.state.specs.State.{WellFormed, fresh}
+use Rattle.state.specs.State.{Holds, WellFormed, fresh}
 use Rattle.events.specs.declared.Event.{Event}
 use Rattle.events.specs.declared.Refusal.the-variants.{IllFormed}
 use Rattle.events.specs.declared.Answer.{Answer}
@@ -22,12 +25,12 @@ use Rattle.events.specs.Meaning.{Follows}
 use Rattle.events.proofs.Told.{Told}
 use Rattle.events.proofs.Given.{told}
 use Rattle.events.proofs.Kept.{stays, fresh-formed, no-train, no-hold}
-use Rattle.demands.specs.Demands.{Box, Demand2, history, reached, total, Safe, Demand3}
+use Rattle.demands.specs.Demands.{Box, Demand2, history, reached, total, SinceGrant, ListedAsItLies, Safe, Demand3}
 use Rattle.demands.proofs.Invariant.{Invariant, fresh-invariant}
 use Rattle.demands.proofs.Accidents.{no-accident}
 use Rattle.demands.proofs.Steps.{keeps}
 use Rattle.demands.proofs.Counting.{shown-none, shown-most, shown-train, counts}
-use Rattle.demands.proofs.History.{all-last, held-after, single-after}
+use Rattle.demands.proofs.History.{all-last, held-after}
 
 -- The history of the first n events is the first n answers.
 pub history-first : (box : Box) (p : Plan) (σ : State) (events : List Event) (n : ℕ) → history box p σ (take n events) ≡ take n (history box p σ events)
@@ -50,7 +53,7 @@ module _ (box : Box) (p : Plan) where
   history-append σ (e ∷ a) b = ap (λ h. box .answer p σ e ∷ h) (history-append (box .next p σ e) a b)
 
 -- What every answer and next state keep holds along a run.
-along : (box : Box) (p : Plan) (Kept : List Answer → State → Type 0)
+pub along : (box : Box) (p : Plan) (Kept : List Answer → State → Type 0)
     → ((h : List Answer) (σ : State) (event : Event) → Kept h σ → Kept (h ++ (box .answer p σ event ∷ [])) (box .next p σ event))
     → (h : List Answer) (σ : State) → Kept h σ → (events : List Event) → Kept (h ++ history box p σ events) (reached box p σ events)
 unfolding history reached
@@ -71,8 +74,8 @@ fresh-safe p reads = record {
   counted = λ u. omega (arith, shown-none fresh u (no-train u));
   shownMost = shown-most fresh;
   shownTrain = shown-train fresh;
-  single = λ q r x h k. absurd (no-hold q x h);
   held = λ r x. (λ h. absurd (no-hold r x h), λ w. absurd (no-split (Done (Granted r)) (w .1 .earlier) (w .1 .later) (w .1 .splits)));
+  agreed = λ r x h. absurd (no-hold r x h);
   whole = fresh-formed p reads;
   unharmed = tt;
   formed = tt;
@@ -83,6 +86,12 @@ fresh-safe p reads = record {
     no-split a (b ∷ earlier) later e = never (cc)
 
 module _ (p : Plan) (reads : Readable p) (sound : Sound p) where
+  -- what a route holds and lists lies as it is listed
+  as-listed : (τ : State) → Invariant p τ → (r x : ℕ) → Holds τ r x → Listed p r x → ListedAsItLies p τ r x
+  unfolding pointsOf
+  as-listed τ inv r x h (inl w) = inl (inv .lies r x false h w, w)
+  as-listed τ inv r x h (inr w) = inr (inv .lies r x true h w, w)
+
   safe-after : (h : List Answer) (σ τ : State) (a : Answer) → WellFormed p σ → Invariant p σ → Safe p h σ → Told p σ a → Follows p σ τ a
       → Safe p (h ++ (a ∷ [])) τ
   unfolding refusalNumber
@@ -90,13 +99,16 @@ module _ (p : Plan) (reads : Readable p) (sound : Sound p) where
     counted = λ u. counts p σ τ h a t f u (s .counted u);
     shownMost = shown-most τ;
     shownTrain = shown-train τ;
-    single = single-after p σ τ a t f (s .single);
-    held = λ r x. held-after p r x σ τ h a f (s .held r x);
+    held = held;
+    agreed = λ r x k. as-listed τ (keeps reads sound w inv a t f) r x k (held r x .0 k .0);
     whole = stays σ τ reads w a t f;
     unharmed = all-last _ h a (s .unharmed) (λ harm e. no-accident p reads sound σ inv w harm (subst (Told p σ) e t));
     formed = all-last _ h a (s .formed) (λ e. ill (subst (Told p σ) e t) w);
   }
     where
+      held : (r x : ℕ) → Holds τ r x ↔ (Listed p r x × SinceGrant p r x (h ++ (a ∷ [])))
+      held r x = held-after p r x σ τ h a f (s .held r x)
+
       ill : Told p σ (Refused IllFormed) → WellFormed p σ → ⊥
       ill n = n
 

@@ -15,9 +15,8 @@ use Rattle.events.specs.declared.Deed.the-variants.{Granted, Cancelled, Entered
 use Rattle.events.specs.declared.Answer.the-variants.{Refused, Accident, Done}
 use Rattle.events.specs.Answers.{deedArrives, arrivesOn}
 use Rattle.events.specs.Meaning.{Follows}
-use Rattle.events.proofs.Told.{Told}
 use Rattle.events.proofs.Cases.{listed?, releases?}
-use Rattle.events.proofs.Follow.{grant-holds, cancel-holds, move-holds}
+use Rattle.events.proofs.Follow.{cancel-holds}
 use Rattle.demands.specs.Demands.{SinceGrant}
 
 -- Lists with one more element at the end.
@@ -127,17 +126,3 @@ module _ (p : Plan) (r x : ℕ) where
                 spared a (record { ungranted = k1; uncancelled = k2; unreleased = k3 }) f
                 ∙ so-far .1 (l, record { earlier = since .earlier; later = before; splits = g; latest = c1; uncancelled = c2; unreleased = c3 }))
           ]
-
--- At most one route holds a point: a grant takes only points that nobody holds.
-pub single-after : (p : Plan) (σ τ : State) (a : Answer) → Told p σ a → Follows p σ τ a
-    → ((q r x : ℕ) → Holds σ q x → Holds σ r x → q ≡ r) → (q r x : ℕ) → Holds τ q x → Holds τ r x → q ≡ r
-single-after p σ τ (Refused refusal) t f one q r x h k = one q r x (rw f at h) (rw f at k)
-single-after p σ τ (Accident harm) t f one q r x h k = one q r x (rw f at h) (rw f at k)
-single-after p σ τ (Done (Granted n)) t f one q r x h k = elim (grant-holds f q x h) [
-  | inl a ↦ (elim (grant-holds f r x k) [ inl b ↦ a .0 ∙ sym (b .0) | inr b ↦ absurd (t .idle x (a .1, (r, b .1))) ])
-  | inr a ↦ (elim (grant-holds f r x k) [ inl b ↦ absurd (t .idle x (b .1, (q, a .1))) | inr b ↦ one q r x (a .1) (b .1) ])
-]
-single-after p σ τ (Done (Cancelled n)) t f one q r x h k = one q r x ((cancel-holds f q x h) .1) ((cancel-holds f r x k) .1)
-single-after p σ τ (Done (Entered train u)) t f one q r x h k = one q r x (sym (f .holds q x) ∙ h) (sym (f .holds r x) ∙ k)
-single-after p σ τ (Done (Moved train u v)) t f one q r x h k = one q r x ((move-holds f q x h) .1) ((move-holds f r x k) .1)
-single-after p σ τ (Done (Left train u)) t f one q r x h k = one q r x (sym (f .holds q x) ∙ h) (sym (f .holds r x) ∙ k)

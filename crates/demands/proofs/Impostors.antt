@@ -1,7 +1,7 @@
 -- The impostors fail: on the small plan, from fresh, an unknown event must be refused and a first train must be let in; without a clear list a
 -- second one must be called a collision.
 use mathlib.Core.Path.{_≡_, refl, sym, ap, _∙_, subst}
-use mathlib.Core.Logic.{_≢_, _⊎_, inl, inr}
+use mathlib.Core.Logic.{_≢_, _⊎_, inl, inr, _↔_}
 use mathlib.Core.List.{List, [], _∷_, _++_}
 use Prim.Native.Nat.{ℕ, _+_, _<_, _≤_}
 use native.Mathlib.Omega.{arith}
@@ -9,13 +9,13 @@ use native.Mathlib.Nat.{not-suc-le-zero, zero-add}
 use lib.ListN.{length}
 use Rattle.laws.specs.declared.Found.the-variants.{At}
 use Rattle.laws.specs.Tests.{never, same?, below?}
-use Rattle.laws.specs.Answers.{None, Gives}
+use Rattle.laws.specs.Answers.{None, LowestSuch, Gives}
 use Rattle.laws.specs.Lists.{All, In}
-use Rattle.plan.specs.Records.{Plan, entryOf}
+use Rattle.plan.specs.Records.{Plan, routeOf, entryOf}
 use Rattle.plan.specs.File.{Readable}
 use Rattle.rules.specs.Verdict.{Sound}
 use Rattle.state.specs.declared.State.{State}
-use Rattle.state.specs.State.{noTrain, trainAt, HasTrain, WellFormed, fresh}
+use Rattle.state.specs.State.{noTrain, normalLie, reverseLie, red, trainAt, lieAt, shownAt, HasTrain, Holds, WellFormed, fresh}
 use Rattle.events.specs.declared.Event.{Event}
 use Rattle.events.specs.declared.Event.the-variants.{Request, Cancel, Enter, Move, Unknown}
 use Rattle.events.specs.declared.Met.the-variants.{Train}
@@ -26,11 +26,11 @@ use Rattle.events.specs.declared.Answer.{Answer}
 use Rattle.events.specs.declared.Deed.the-variants.{Entered}
 use Rattle.events.specs.declared.Answer.the-variants.{Refused, Accident, Done}
 use Rattle.events.specs.Answers.{deedComes, deedLeaves}
-use Rattle.events.specs.Meaning.{clearFor, InPlan, Busy, Meets, enterTable, eventTable, tableOf, Given, AfterEntry, Follows}
+use Rattle.events.specs.Meaning.{clearFor, InPlan, SignalRed, Busy, Meets, enterTable, eventTable, tableOf, Given, AfterGrant, AfterEntry, Follows}
 use Rattle.events.proofs.Told.{Told}
 use Rattle.events.proofs.Given.{one-given as one-given-in, told}
 use Rattle.events.proofs.Kept.{stays, fresh-formed, no-train}
-use Rattle.demands.specs.Demands.{Box, Demand2, history, reached, onceAt, comes, goes, total, shown, Safe, Demand3}
+use Rattle.demands.specs.Demands.{Box, Demand2, history, reached, onceAt, comes, goes, total, shown, ListedAsItLies, Safe, Demand3, HeldTurned}
 use Rattle.demands.specs.Impostors.{hasty, DifferAt, hushed, hush, AllEnter, AllLeave, AllMove, InventsAt, Impostors}
 use Rattle.demands.proofs.Invariant.{Invariant}
 use Rattle.demands.proofs.Accidents.{no-accident}
@@ -78,6 +78,42 @@ elsewhere p σ (Enter i other) n (inr (inr e)) (lowest, stands) = never (cc)
 elsewhere p σ (Cancel r) n off (lowest, stands) = not-suc-le-zero (lowest .such .0 .1)
 elsewhere p σ (Move other) n off (lowest, stands) = not-suc-le-zero (lowest .such .0 .1)
 elsewhere p σ Unknown n off (lowest, stands) = not-suc-le-zero (lowest .such .0 .1)
+
+-- what 14 names is held, and the grant would turn it, and no lower one; and it comes past 12 and 13
+module _ (p : Plan) (σ : State) (r q : ℕ) where
+  abbrev HeldFor : Type 0
+  HeldFor =
+      WellFormed p σ
+      × ((k : ℕ) × (Request r ≡ Request k) × (k < length (p .routes)) × SignalRed p σ k × None (Busy p σ (routeOf p k .clear)) × ((τ : State) × AfterGrant p σ τ k × LowestSuch (HeldTurned σ τ) q))
+
+  stiff : HeldFor
+      → ((k : ℕ) → Holds σ k q → ⊥) ⊎ ((τ : State) → AfterGrant p σ τ r → (lieAt τ q ≡ lieAt σ q) ⊎ ((x k : ℕ) × (x < q) × Holds σ k x × (lieAt τ x ≢ lieAt σ x))) → ⊥
+  stiff (formed, (k, e, known, red, free, (τ, g, lowest))) (inl none) = none (lowest .such .0 .0) (lowest .such .0 .1)
+  stiff (formed, (k, e, known, red, free, (τ, g, lowest))) (inr wrong) =
+      let same : k ≡ r = cc in
+      elim (wrong τ (subst (AfterGrant p σ τ) same g)) [ inl lies ↦ lowest .such .1 lies | inr (x, j, h, held, turned) ↦ lowest .noLower x h ((j, held), turned) ]
+
+  rash : HeldFor
+      → (WellFormed p σ → ⊥) ⊎ (length (p .routes) ≤ r) ⊎ (shownAt σ (routeOf p r .start) ≢ red) ⊎ ((u : ℕ) × In u (routeOf p r .clear) × HasTrain σ u) → ⊥
+  rash (formed, (k, e, known, red, free, rest)) (inl n) = n formed
+  rash (formed, (k, e, known, red, free, rest)) (inr (inl n)) = let same : k ≡ r = cc in absurd (omega (arith, known, same, n))
+  rash (formed, (k, e, known, red, free, rest)) (inr (inr (inl n))) = let same : k ≡ r = cc in n (subst (λ i. SignalRed p σ i) same red)
+  rash (formed, (k, e, known, red, free, rest)) (inr (inr (inr (u, w, t)))) = let same : k ≡ r = cc in subst (λ i. None (Busy p σ (routeOf p i .clear))) same free u (w, t)
+
+-- a hold after a grant that was not there, or is gone
+robbed : {Before After Own Listed : Type 0} → After ↔ (Before ⊎ (Own × Listed)) → (Before × (After → ⊥)) ⊎ (Own × Listed × (After → ⊥)) ⊎ ((Before → ⊥) × ((Own → ⊥) ⊎ (Listed → ⊥)) × After) → ⊥
+robbed held (inl (h, n)) = n (held .1 (inl h))
+robbed held (inr (inl (own, l, n))) = n (held .1 (inr (own, l)))
+robbed held (inr (inr (new, inl n, h))) = elim (held .0 h) [ inl b ↦ new b | inr w ↦ n (w .0) ]
+robbed held (inr (inr (new, inr n, h))) = elim (held .0 h) [ inl b ↦ new b | inr w ↦ n (w .1) ]
+
+-- a holder that doesn't list the point in the lie that it has
+swung : (p : Plan) (σ : State) (r x : ℕ) → ListedAsItLies p σ r x
+    → ((lieAt σ x ≡ normalLie) × (In x (routeOf p r .normal) → ⊥)) ⊎ ((lieAt σ x ≡ reverseLie) × (In x (routeOf p r .reverse) → ⊥)) → ⊥
+swung p σ r x (inl (e, w)) (inl (d, n)) = n w
+swung p σ r x (inl (e, w)) (inr (d, n)) = absurd (omega arith)
+swung p σ r x (inr (e, w)) (inl (d, n)) = absurd (omega arith)
+swung p σ r x (inr (e, w)) (inr (d, n)) = n w
 
 must-refuse : Given bare fresh Unknown (Refused BadEvent)
 unfolding Gives tableOf eventTable
@@ -269,14 +305,36 @@ impostors = record {
   inventedFails = λ box p reads sound events event u n d. invented-fails box d p reads sound events event u n;
   harmFails = λ box p reads sound events event harm e d. last-answer box d p reads sound events event (λ a. (other : Harm) → a ≢ Accident other) (λ h σ safe. safe .unharmed) harm e;
   illFails = λ box p reads sound events event e d. last-answer box d p reads sound events event (λ a. a ≢ Refused IllFormed) (λ h σ safe. safe .formed) e;
-  sharedFails = λ box p reads sound events k r x n h g d. n (d p reads sound events .single k r x h g);
   holdsFail = λ box p reads sound events r x w d.
       let held = d p reads sound events .held r x in elim w [ inl (h, n) ↦ n (held .0 h) | inr (s, n) ↦ n (held .1 s) ];
+  swungFails = λ box p reads sound events r x h wrong d. swung p (reached box p fresh events) r x (d p reads sound events .agreed r x h) wrong;
   strangerFails = λ box p reads σ event u train e wrong names. stranger p σ event (names .names p reads σ event u train e) wrong;
   elsewhereFails = λ box p reads σ event n u train off e names. elsewhere p σ event n off (names .names p reads σ event u train e);
   muteFails = λ box p reads σ w r h red u lowest n names. n (names .request p reads σ w r h red u (trainAt σ u) (lowest, refl));
   dumbFails = λ box p reads σ w e other h k new u lowest n names. n (names .entry p reads σ w e other h k new u (trainAt σ u) (lowest, refl));
-  aloofFails = λ box p reads r σ τ w v same n agrees. n (agrees p reads r σ τ w v same);
+  stiffFails = λ box p reads σ r q e wrong names. stiff p σ r q (names .names p reads σ (Request r) q e) wrong;
+  rashFails = λ box p reads σ r q e wrong names. rash p σ r q (names .names p reads σ (Request r) q e) wrong;
+  astrayFails = λ box p reads σ event q off e names. let (formed, (r, is, known, red, free, rest)) = names .names p reads σ event q e in off r is;
+  laxFails = λ box p reads σ τ w r h red none g k q held turned lower n names.
+      n (names .request p reads σ τ w r h red none g q (record { such = ((k, held), turned); noLower = λ x l s. s .1 (lower (s .0 .0) x l (s .0 .1)) }));
+  turnerFails = λ box p reads σ r k q e h n names. n (names .still p reads σ r k q e h);
+  robberFails = λ box p reads σ event r k q e wrong own. robbed (own p reads σ event k q .granted r e) wrong;
+  clearerFails = λ box p reads σ event r k q e wrong own. let held = own p reads σ event k q .cancelled r e in elim wrong [
+    | inl (other, h, n) ↦ n (held .1 (other, h))
+    | inr (same, h) ↦ held .0 h .0 same
+  ];
+  spenderFails = λ box p reads σ event train u v k q e wrong own. let held = own p reads σ event k q .moved train u v e in elim wrong [
+    | inl (other, h, n) ↦ n (held .1 (other, h))
+    | inr (w, h) ↦ held .0 h .0 w
+  ];
+  restlessFails = λ box p reads events r q h wrong s. s p reads events r q h wrong;
+  aloofFails = λ box p reads r σ τ w v signal clear points n agrees. n (agrees p reads r σ τ w v record {
+    signal = signal;
+    clear = clear;
+    holds = λ k q l. points q l .0 k;
+    lies = λ q l. points q l .1;
+    trains = λ q l. points q l .2;
+  });
   miserFails = refuses-all;
   pastFails = writes-past;
   blindFails = λ read writer image out long none n w. n (w .none image out long .1 none);

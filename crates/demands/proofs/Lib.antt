@@ -6,6 +6,7 @@ pub mod Steps
 pub mod Counting
 pub mod History
 pub mod Demand3
+pub mod Settled
 pub mod Agreement
 pub mod Once
 pub mod Verdicts

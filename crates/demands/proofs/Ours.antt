@@ -19,7 +19,8 @@ use Rattle.forms.proofs.Rows.{track-row, release-row, route-row, entry-row}
 use Rattle.demands.proofs.Verdicts.{parse-reads}
 use Rattle.demands.proofs.Writing.{our-writes, round-trip}
 use Rattle.demands.proofs.Demand3.{demand2→demand3}
-use Rattle.demands.proofs.Agreement.{demand2→names-train, demand2→agreement}
+use Rattle.demands.proofs.Settled.{demand2→own-holds, demand2→settled}
+use Rattle.demands.proofs.Agreement.{demand2→names-train, demand2→names-held, demand2→agreement}
 
 pub exact : Demand2 ours
 exact = record { answers = given; states = next-follows }
@@ -48,5 +49,8 @@ shown = record {
   safe = demand2→demand3 ours exact;
   file-safe = λ file bytes {p} e v. demand2→demand3 ours exact p (reads-readable file e .1) (accepted-exactly p .0 v) (eventsOf bytes);
   names-train = demand2→names-train ours exact;
+  names-held = demand2→names-held ours exact;
+  own-holds = demand2→own-holds ours exact;
+  settled = demand2→settled ours exact;
   agrees = demand2→agreement ours exact;
 }

@@ -1,4 +1,4 @@
--- Each answer keeps the invariant: a grant takes a way that is free and points that nobody holds; a cancel has no train on its way; an entry is where
+-- Each answer keeps the invariant: a grant takes a way that is free, and turns no point that is held; a cancel has no train on its way; an entry is where
 -- nothing leads to; a train that leaves takes nothing; a train that moves keeps to its way, which nobody else has ahead.
 use mathlib.Core.Path.{_≡_, sym, ap, _∙_, subst}
 use mathlib.Core.Bool.{Bool, true, false}
@@ -20,12 +20,11 @@ use Rattle.state.specs.State.{noTrain, greenFor, trainAt, lieAt, shownAt, HasTr
 use Rattle.events.specs.declared.Answer.{Answer}
 use Rattle.events.specs.declared.Deed.the-variants.{Granted, Cancelled, Entered, Moved, Left}
 use Rattle.events.specs.declared.Answer.the-variants.{Refused, Accident, Done}
-use Rattle.events.specs.Meaning.{Busy, HeldListed, SignalGreen, AfterGrant, AfterCancel, AfterEntry, AfterMove, AfterLeaving, Follows}
+use Rattle.events.specs.Meaning.{Busy, HeldOther, SignalGreen, AfterGrant, AfterCancel, AfterEntry, AfterMove, AfterLeaving, Follows}
 use Rattle.events.proofs.Told.{Told}
 use Rattle.events.proofs.Kept.{stood}
 use Rattle.events.proofs.Facts.{start-below}
-use Rattle.events.proofs.Cases.{listed?}
-use Rattle.events.proofs.Follow.{green-red, grant-holds, grant-keeps, grant-green, cancel-holds, cancel-signal, move-from, move-empty, move-holds, move-signal, leave-trains, leave-signal}
+use Rattle.events.proofs.Follow.{green-red, grant-holds, grant-keeps, grant-still, grant-green, cancel-holds, cancel-signal, move-from, move-empty, move-holds, move-signal, leave-trains, leave-signal}
 use Rattle.demands.proofs.Cases.{lieOf}
 use Rattle.demands.proofs.Facts.{at-home, path-clear, release-on}
 use Rattle.demands.proofs.Invariant.{Ahead, Mobile, Place, Way, Invariant, sole}
@@ -51,7 +50,7 @@ place-kept pl a = record { r = pl .r; i = pl .i; at = pl .at; ahead = a }
 
 module _ (p : Plan) (reads : Readable p) (sound : Sound p) (σ : State) (inv : Invariant p σ) (τ : State) where
   -- A request granted: its own way was found free and is held now; nothing else changes for the others.
-  module _ (r : ℕ) (known : r < length (p .routes)) (clear : None (Busy p σ (routeOf p r .clear))) (idle : None (HeldListed p σ r)) (g : AfterGrant p σ τ r) where
+  module _ (r : ℕ) (known : r < length (p .routes)) (clear : None (Busy p σ (routeOf p r .clear))) (idle : None (HeldOther p σ r)) (g : AfterGrant p σ τ r) where
     grant-ahead : {q n : ℕ} → Ahead p σ q n → Ahead p τ q n
     grant-ahead {q} a = ahead-kept a (λ k h l z. g .trains _ ∙ z) (λ x l kept h. grant-keeps g q x h)
 
@@ -73,10 +72,7 @@ module _ (p : Plan) (reads : Readable p) (sound : Sound p) (σ : State) (inv : I
     grant-lies : (q x : ℕ) (lie : Bool) → Holds τ q x → In x (pointsOf p q lie) → lieAt τ x ≡ lieOf lie
     grant-lies q x lie h w = elim (grant-holds g q x h) [
       | inl z ↦ granted-lie x lie (rw (z .0) at w)
-      | inr z ↦ (elim (listed? p r x) [
-        | inl l ↦ absurd (idle x (l, (q, z .1)))
-        | inr l ↦ g .otherLies x l ∙ inv .lies q x lie (z .1) w
-      ])
+      | inr z ↦ grant-still g x (λ o. idle x ((q, z .1), o)) ∙ inv .lies q x lie (z .1) w
     ]
 
     pub grant-kept : Invariant p τ

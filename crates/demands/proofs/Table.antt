@@ -14,7 +14,7 @@ use Rattle.state.specs.Holds.{adding, empty, within}
 use Rattle.state.specs.State.{trainAt, lieAt, heldBy, shownAt, fresh, again, once, pointOr, pointsOnly, greenNames, namedAt, greensName, liesKnown, wellFormed}
 use Rattle.events.specs.Events.{eventOf, firstEvent, eventsOf}
 use Rattle.events.specs.Answers.{refusalNumber, refusalValues, harmNumber, harmValues, deedNumber, deedValues, answerNumber, answerValues, deedArrives, deedComes, deedLeaves}
-use Rattle.events.specs.Decide.{hasTrain, isRed, isGreen, isReverse, busy, heldListed, lieAfter, derails, stands, busyTrain, unlessTrain, heldPoint, derailedPoint}
+use Rattle.events.specs.Decide.{hasTrain, isRed, isGreen, isReverse, isHeld, busy, lieAfter, turns, heldOther, derails, stands, busyTrain, unlessTrain, heldPoint, derailedPoint}
 use Rattle.events.specs.Decide.{frontOf, inPlan, redAt, wayOut, runsThrough, answerRequest, answerCancel, answerEnter, moveTo, moveFrom, answerMove, decided, answer}
 use Rattle.events.specs.After.{stood, gone, newTrains, newLies, taken, dropped, droppedAll, arrived, routeHolds, givenBack, newHolds, shown, reddened}
 use Rattle.events.specs.After.{routeSignals, redBehind, newSignals, afterDeed, after, nextState}
@@ -33,7 +33,7 @@ unfolding joined emptyFrom tab member including excluding
     adding empty within trainAt lieAt heldBy shownAt fresh again once pointOr pointsOnly greenNames namedAt greensName liesKnown wellFormed
     eventOf firstEvent eventsOf
     refusalNumber refusalValues harmNumber harmValues deedNumber deedValues answerNumber answerValues deedArrives deedComes deedLeaves
-    hasTrain isRed isGreen isReverse busy heldListed lieAfter derails stands busyTrain unlessTrain heldPoint derailedPoint frontOf inPlan
+    hasTrain isRed isGreen isReverse isHeld busy lieAfter turns heldOther derails stands busyTrain unlessTrain heldPoint derailedPoint frontOf inPlan
     redAt wayOut runsThrough answerRequest answerCancel answerEnter moveTo moveFrom answerMove decided answer
     stood gone newTrains newLies taken dropped droppedAll arrived routeHolds givenBack newHolds shown reddened routeSignals
     redBehind newSignals afterDeed after nextState

@@ -13,12 +13,12 @@
 --   rules/specs/Sentences.antt   the twelve plan rules, each as its sentence of a row
 --   rules/specs/Verdict.antt     rules, their list; Sound, each sentence is true of every row; Breaks, the lowest broken rule and row; ruleNumber and ruleRow, the
 --                                document's numbers of a Verdict (rules/src/lib.rt)
---   state/specs/State.antt       State (state/src/lib.rt) and its views trainAt, HasTrain, Holds; fresh; WellFormed
+--   state/specs/State.antt       State (state/src/lib.rt) and its views trainAt, HasTrain, lieAt, Holds; fresh; WellFormed
 --   events/src/lib.rt            Event, Answer, Refusal, Met, Harm, Deed; events/specs/Events.antt: eventsOf, the events of any bytes
 --   events/specs/Answers.antt    comesOn, arrivesOn, leavesFrom: where an answer, if it is a deed (ifDone), brings a train or takes one away
 --   events/specs/Meaning.antt    Given, the table of answers; Follows, what a state shows after an answer; SameTrains and so on; Alike; clearFor and Meets, what
 --                                is met on the clear list of an event
---   laws/specs/Answers.antt      Table, the rows of a table of answers, and Gives, the answer that it gives
+--   laws/specs/Answers.antt      Table, the rows of a table of answers, and Gives, the answer that it gives; None, LowestSuch
 --   laws/specs/Lists.antt        All: each element of a list is so; In: a number stands in a list; laws/src/lib.rt: Found; laws/specs/Sets.antt: member, the bits
 --                                of a number (a route holds a point); laws/specs/Tests.antt: Is, a test is passed
 -- Demand 1, always an answer, needs no definition here: the functions of the public face (signalbox/src/lib.rt) ask nothing of their callers, and
@@ -30,14 +30,15 @@
 -- `unfoldable` are for the prover. These, and what the kit has of numbers and lists, are all that is used beside the definitions above.
 use mathlib.Core.Path.{_≡_}
 use mathlib.Core.Bool.{cond}
-use mathlib.Core.Logic.{_≢_, _↔_}
+use mathlib.Core.Logic.{_≢_, _⊎_, _↔_}
 use mathlib.Core.List.{List, [], _∷_, _++_}
 use Prim.Native.Nat.{ℕ, _+_, _<_, _≤_}
 use lib.Dec.{eqb}
 use lib.ListN.{length, take, drop}
 use Rattle.laws.specs.declared.Found.{Found}
 use Rattle.laws.specs.declared.Found.the-variants.{At, Nothing}
-use Rattle.laws.specs.Lists.{All}
+use Rattle.laws.specs.Lists.{All, In}
+use Rattle.laws.specs.Answers.{None, LowestSuch}
 use Rattle.plan.specs.Limits.{imageSize}
 use Rattle.plan.specs.Records.{Plan, routeOf, entryOf}
 use Rattle.plan.specs.Routes.{Listed, Releases}
@@ -54,17 +55,17 @@ use Rattle.rules.specs.declared.Verdict.{Verdict}
 use Rattle.rules.specs.declared.Verdict.the-variants.{Accepted}
 use Rattle.rules.specs.Verdict.{Sound, Breaks, ruleNumber, ruleRow}
 use Rattle.state.specs.declared.State.{State}
-use Rattle.state.specs.State.{noTrain, trainAt, HasTrain, Holds, WellFormed, fresh}
+use Rattle.state.specs.State.{noTrain, normalLie, reverseLie, trainAt, lieAt, HasTrain, Holds, WellFormed, fresh}
 use Rattle.events.specs.declared.Event.{Event}
 use Rattle.events.specs.declared.Event.the-variants.{Request, Enter}
 use Rattle.events.specs.declared.Met.the-variants.{Train}
-use Rattle.events.specs.declared.Refusal.the-variants.{IllFormed, Occupied}
+use Rattle.events.specs.declared.Refusal.the-variants.{IllFormed, Occupied, Held}
 use Rattle.events.specs.declared.Harm.{Harm}
-use Rattle.events.specs.declared.Deed.the-variants.{Granted, Cancelled}
+use Rattle.events.specs.declared.Deed.the-variants.{Granted, Cancelled, Entered, Moved, Left}
 use Rattle.events.specs.declared.Answer.{Answer}
 use Rattle.events.specs.declared.Answer.the-variants.{Refused, Accident, Done}
 use Rattle.events.specs.Answers.{comesOn, arrivesOn, leavesFrom}
-use Rattle.events.specs.Meaning.{clearFor, Meets, InPlan, SignalRed, Given, Follows, Alike, SameTrains, SameLies, SameHolds, SameSignals}
+use Rattle.events.specs.Meaning.{clearFor, Busy, Meets, OtherLie, InPlan, SignalRed, Given, AfterGrant, Follows, Alike, SameTrains, SameLies, SameHolds, SameSignals}
 
 pub record Box : Type 0 where
   pub answer : Plan → State → Event → Answer
@@ -186,6 +187,10 @@ pub record SinceGrant (p : Plan) (r x : ℕ) (answers : List Answer) : Type 0 wh
   pub uncancelled : All (λ answer. answer ≢ Done (Cancelled r)) later
   pub unreleased : All (λ answer. (v : ℕ) → arrivesOn answer ≡ At v → Releases p r v x → ⊥) later
 
+-- the route lists the point in the lie that it has: among its normal points where it lies normal, among its reverse points where it lies reverse
+abbrev pub ListedAsItLies : Plan → State → ℕ → ℕ → Type 0
+ListedAsItLies p σ r x = ((lieAt σ x ≡ normalLie) × In x (routeOf p r .normal)) ⊎ ((lieAt σ x ≡ reverseLie) × In x (routeOf p r .reverse))
+
 -- Demand 3, of the answers so far and the state.
 pub record Safe (p : Plan) (answers : List Answer) (σ : State) : Type 0 where
   -- for each track, what came is what went and what is shown: no train or one, and one exactly if the state has a train there (this is what `shown`
@@ -193,9 +198,9 @@ pub record Safe (p : Plan) (answers : List Answer) (σ : State) : Type 0 where
   pub counted : (u : ℕ) → total (comes u) answers ≡ total (goes u) answers + shown σ u
   pub shownMost : (u : ℕ) → shown σ u ≤ 1
   pub shownTrain : (u : ℕ) → (shown σ u ≡ 1) ↔ HasTrain σ u
-  -- each point is held by at most one route, and exactly as the answers say
-  pub single : (k r x : ℕ) → Holds σ k x → Holds σ r x → k ≡ r
+  -- each route's hold of a point is there exactly when the answers say so, and all holders of a point list it in the lie it has
   pub held : (r x : ℕ) → Holds σ r x ↔ (Listed p r x × SinceGrant p r x answers)
+  pub agreed : (r x : ℕ) → Holds σ r x → ListedAsItLies p σ r x
   -- the state is well formed: no train stands on two tracks, or where there is no track
   pub whole : WellFormed p σ
   -- no 40, 41 or 42 was answered (an Accident is one of these), and no 10 (IllFormed): events/specs/Answers.antt has the numbers
@@ -217,6 +222,43 @@ pub record NamesTrain (box : Box) : Type 0 where
       → (u train : ℕ) → Meets p σ (routeOf p r .clear) (Train u train) → box .answer p σ (Request r) ≡ Refused (Occupied u train)
   pub entry : (p : Plan) → Readable p → (σ : State) → WellFormed p σ → (e other : ℕ) → e < length (p .entries) → other ≢ noTrain → (InPlan p σ other → ⊥)
       → (u train : ℕ) → Meets p σ (entryOf p e .clear) (Train u train) → box .answer p σ (Enter e other) ≡ Refused (Occupied u train)
+
+-- a point that some route holds in a state, and that lies otherwise in another
+abbrev pub HeldTurned : State → State → ℕ → Type 0
+HeldTurned σ τ q = ((k : ℕ) × Holds σ k q) × (lieAt τ q ≢ lieAt σ q)
+
+-- 14 is said to requests alone, past 10 to 13, and names the lowest point that some route holds and that lies otherwise than the grant would leave it, τ
+-- being what the grant would leave (document 02, No. 4); and there it is said, where no test before 14 applies. What is granted turns no point that is
+-- held. Every box that meets demand 2 is so (proofs/Agreement.antt, demand2→names-held).
+pub record NamesHeld (box : Box) : Type 0 where
+  pub names : (p : Plan) → Readable p → (σ : State) (event : Event) (q : ℕ) → box .answer p σ event ≡ Refused (Held q)
+      → WellFormed p σ
+      × ((r : ℕ) × (event ≡ Request r) × (r < length (p .routes)) × SignalRed p σ r × None (Busy p σ (routeOf p r .clear)) × ((τ : State) × AfterGrant p σ τ r × LowestSuch (HeldTurned σ τ) q))
+  pub request : (p : Plan) → Readable p → (σ τ : State) → WellFormed p σ → (r : ℕ) → r < length (p .routes) → SignalRed p σ r
+      → None (Busy p σ (routeOf p r .clear)) → AfterGrant p σ τ r → (q : ℕ) → LowestSuch (HeldTurned σ τ) q → box .answer p σ (Request r) ≡ Refused (Held q)
+  pub still : (p : Plan) → Readable p → (σ : State) (r k q : ℕ) → box .answer p σ (Request r) ≡ Done (Granted r) → Holds σ k q
+      → lieAt (box .next p σ (Request r)) q ≡ lieAt σ q
+
+-- Who holds a point after a deed: several routes may, and each gives back only its own hold (document 02, No. 4). Of any plan that reads and any state. Every
+-- box that meets demand 2 is so (proofs/Settled.antt, demand2→own-holds).
+pub record OwnHolds (box : Box) (p : Plan) (σ : State) (event : Event) (k q : ℕ) : Type 0 where
+  -- a grant adds the route's hold of each listed point, and takes none
+  pub granted : (r : ℕ) → box .answer p σ event ≡ Done (Granted r) → Holds (box .next p σ event) k q ↔ (Holds σ k q ⊎ ((k ≡ r) × Listed p r q))
+  -- a cancel drops the holds of its route, an arrival on v those that have (v, q) in their own release list
+  pub cancelled : (r : ℕ) → box .answer p σ event ≡ Done (Cancelled r) → Holds (box .next p σ event) k q ↔ ((k ≢ r) × Holds σ k q)
+  pub moved : (train u v : ℕ) → box .answer p σ event ≡ Done (Moved train u v) → Holds (box .next p σ event) k q ↔ ((Releases p k v q → ⊥) × Holds σ k q)
+  -- an entry and a leaving change none
+  pub entered : (train u : ℕ) → box .answer p σ event ≡ Done (Entered train u) → Holds (box .next p σ event) k q ↔ Holds σ k q
+  pub left : (train u : ℕ) → box .answer p σ event ≡ Done (Left train u) → Holds (box .next p σ event) k q ↔ Holds σ k q
+
+abbrev pub KeepsOwn : Box → Type 0
+KeepsOwn box = (p : Plan) → Readable p → (σ : State) (event : Event) (k q : ℕ) → OwnHolds box p σ event k q
+
+-- On every plan that reads, accepted or not, from the fresh state, after any events: a point lies as each of its holders would leave it, so that nobody's
+-- own hold is ever in his way. Every box that meets demand 2 is so (proofs/Settled.antt, demand2→settled).
+abbrev pub Settled : Box → Type 0
+Settled box =
+    (p : Plan) → Readable p → (events : List Event) (r q : ℕ) → Holds (reached box p fresh events) r q → OtherLie p (reached box p fresh events) r q → ⊥
 
 -- Agreement: two well-formed states that agree on what a request looks at give it the same answer. Every box that meets demand 2 is so
 -- (proofs/Agreement.antt, demand2→agreement).

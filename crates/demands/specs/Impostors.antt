@@ -1,5 +1,5 @@
 -- The impostors of document 01, "No loose ends": boxes that would pass for one, and the demand that each of them fails. Ours, beside the document's: boxes
--- deaf to events or states, one that is right but in one place, one for each part of demand 3, for NamesTrain and for Agreement, and one for each part
+-- deaf to events or states, one that is right but in one place, one for each part of demand 3, for NamesTrain, NamesHeld, KeepsOwn, Settled and Agreement, and one for each part
 -- of writing, so that none of them is idle.
 use mathlib.Core.Path.{_≡_}
 use mathlib.Core.Logic.{_≢_, _⊎_}
@@ -7,10 +7,10 @@ use mathlib.Core.List.{List, [], _∷_}
 use Prim.Native.Nat.{ℕ, _+_, _<_, _≤_}
 use lib.ListN.{length, getD}
 use Rattle.laws.specs.Lists.{In}
-use Rattle.laws.specs.Answers.{LowestSuch}
+use Rattle.laws.specs.Answers.{None, LowestSuch}
 use Rattle.plan.specs.Limits.{imageSize}
 use Rattle.plan.specs.Records.{Plan, routeOf, entryOf}
-use Rattle.plan.specs.Routes.{Listed}
+use Rattle.plan.specs.Routes.{Listed, Releases}
 use Rattle.plan.specs.File.{Readable}
 use Rattle.reading.specs.declared.Form.{Form}
 use Rattle.reading.specs.Reading.{Got, form, formNumber, formOffset}
@@ -20,17 +20,17 @@ use Rattle.writing.specs.declared.Written.the-variants.{Refused as Unwrote}
 use Rattle.rules.specs.declared.Verdict.{Verdict}
 use Rattle.rules.specs.Verdict.{Sound, ruleNumber, ruleRow}
 use Rattle.state.specs.declared.State.{State}
-use Rattle.state.specs.State.{noTrain, trainAt, HasTrain, Holds, WellFormed, fresh}
+use Rattle.state.specs.State.{noTrain, normalLie, reverseLie, red, trainAt, lieAt, heldBy, shownAt, HasTrain, Holds, WellFormed, fresh}
 use Rattle.events.specs.declared.Event.{Event}
 use Rattle.events.specs.declared.Event.the-variants.{Request, Cancel, Enter, Move, Unknown}
 use Rattle.events.specs.declared.Refusal.{Refusal}
-use Rattle.events.specs.declared.Refusal.the-variants.{IllFormed, BadEvent, Occupied}
+use Rattle.events.specs.declared.Refusal.the-variants.{IllFormed, BadEvent, Occupied, Held}
 use Rattle.events.specs.declared.Harm.{Harm}
-use Rattle.events.specs.declared.Deed.the-variants.{Entered, Moved, Left}
+use Rattle.events.specs.declared.Deed.the-variants.{Granted, Cancelled, Entered, Moved, Left}
 use Rattle.events.specs.declared.Answer.{Answer}
 use Rattle.events.specs.declared.Answer.the-variants.{Refused, Accident, Done}
-use Rattle.demands.specs.Demands.{Box, Demand2, SameState, Reads, ReadsAs, Writer, Writes, Judges, history, reached, comes, goes, shown, SinceGrant, Demand3, NamesTrain, Agreement}
-use Rattle.events.specs.Meaning.{Busy, clearFor, InPlan, SignalRed, Alike}
+use Rattle.demands.specs.Demands.{Box, Demand2, SameState, Reads, ReadsAs, Writer, Writes, Judges, history, reached, comes, goes, shown, SinceGrant, Demand3, NamesTrain, NamesHeld, KeepsOwn, Settled, Agreement}
+use Rattle.events.specs.Meaning.{Busy, clearFor, InPlan, SignalRed, AfterGrant}
 
 -- it refuses everything, whatever the reason
 abbrev pub RefusesAll : Box → Type 0
@@ -125,17 +125,19 @@ pub record Impostors : Type 0 where
   -- and a single invented coming or going, after any events
   pub inventedFails : (box : Box) (p : Plan) → Readable p → Sound p → (events : List Event) (event : Event) (u : ℕ)
       → InventsAt p (reached box p fresh events) event u box → Demand3 box → ⊥
-  -- a box that on one accepted plan, after some events, says an accident or 10; or shows one point held by two routes, or a hold that the answers don't
-  -- give, or lacks one that they give
+  -- a box that on one accepted plan, after some events, says an accident or 10; or shows a hold that the answers don't give, or lacks one that
+  -- they give, or shows a point held by a route that doesn't list it in the lie it has
   pub harmFails : (box : Box) (p : Plan) → Readable p → Sound p → (events : List Event) (event : Event) (harm : Harm)
       → box .answer p (reached box p fresh events) event ≡ Accident harm → Demand3 box → ⊥
   pub illFails : (box : Box) (p : Plan) → Readable p → Sound p → (events : List Event) (event : Event)
       → box .answer p (reached box p fresh events) event ≡ Refused IllFormed → Demand3 box → ⊥
-  pub sharedFails : (box : Box) (p : Plan) → Readable p → Sound p → (events : List Event) (k r x : ℕ)
-      → k ≢ r → Holds (reached box p fresh events) k x → Holds (reached box p fresh events) r x → Demand3 box → ⊥
   pub holdsFail : (box : Box) (p : Plan) → Readable p → Sound p → (events : List Event) (r x : ℕ)
       → (Holds (reached box p fresh events) r x × (Since p r x (history box p fresh events) → ⊥))
       ⊎ (Since p r x (history box p fresh events) × (Holds (reached box p fresh events) r x → ⊥))
+      → Demand3 box → ⊥
+  pub swungFails : (box : Box) (p : Plan) → Readable p → Sound p → (events : List Event) (r x : ℕ)
+      → Holds (reached box p fresh events) r x
+      → ((lieAt (reached box p fresh events) x ≡ normalLie) × (In x (routeOf p r .normal) → ⊥)) ⊎ ((lieAt (reached box p fresh events) x ≡ reverseLie) × (In x (routeOf p r .reverse) → ⊥))
       → Demand3 box → ⊥
   -- a box whose 13 names another train than the one on the track, or a track that is not in the event's clear list, has no train or is not the lowest
   pub strangerFails : (box : Box) (p : Plan) → Readable p → (σ : State) (event : Event) (u train : ℕ) → box .answer p σ event ≡ Refused (Occupied u train)
@@ -148,8 +150,39 @@ pub record Impostors : Type 0 where
       → (u : ℕ) → LowestSuch (Busy p σ (routeOf p r .clear)) u → box .answer p σ (Request r) ≢ Refused (Occupied u (trainAt σ u)) → NamesTrain box → ⊥
   pub dumbFails : (box : Box) (p : Plan) → Readable p → (σ : State) → WellFormed p σ → (e other : ℕ) → e < length (p .entries) → other ≢ noTrain → (InPlan p σ other → ⊥)
       → (u : ℕ) → LowestSuch (Busy p σ (entryOf p e .clear)) u → box .answer p σ (Enter e other) ≢ Refused (Occupied u (trainAt σ u)) → NamesTrain box → ⊥
+  -- a box whose 14 names a point that no route holds, or that the grant would not turn, or that is not the lowest, or that says it before 10 to 13; one
+  -- that says it to what is no request; one that has another answer where it is due; one whose grant turns a held point
+  pub stiffFails : (box : Box) (p : Plan) → Readable p → (σ : State) (r q : ℕ) → box .answer p σ (Request r) ≡ Refused (Held q)
+      → ((k : ℕ) → Holds σ k q → ⊥) ⊎ ((τ : State) → AfterGrant p σ τ r → (lieAt τ q ≡ lieAt σ q) ⊎ ((x k : ℕ) × (x < q) × Holds σ k x × (lieAt τ x ≢ lieAt σ x)))
+      → NamesHeld box → ⊥
+  pub rashFails : (box : Box) (p : Plan) → Readable p → (σ : State) (r q : ℕ) → box .answer p σ (Request r) ≡ Refused (Held q)
+      → (WellFormed p σ → ⊥) ⊎ (length (p .routes) ≤ r) ⊎ (shownAt σ (routeOf p r .start) ≢ red) ⊎ ((u : ℕ) × In u (routeOf p r .clear) × HasTrain σ u) → NamesHeld box → ⊥
+  pub astrayFails : (box : Box) (p : Plan) → Readable p → (σ : State) (event : Event) (q : ℕ) → ((r : ℕ) → event ≢ Request r)
+      → box .answer p σ event ≡ Refused (Held q) → NamesHeld box → ⊥
+  pub laxFails : (box : Box) (p : Plan) → Readable p → (σ τ : State) → WellFormed p σ → (r : ℕ) → r < length (p .routes) → SignalRed p σ r
+      → None (Busy p σ (routeOf p r .clear)) → AfterGrant p σ τ r → (k q : ℕ) → Holds σ k q → lieAt τ q ≢ lieAt σ q
+      → ((j x : ℕ) → x < q → Holds σ j x → lieAt τ x ≡ lieAt σ x) → box .answer p σ (Request r) ≢ Refused (Held q) → NamesHeld box → ⊥
+  pub turnerFails : (box : Box) (p : Plan) → Readable p → (σ : State) (r k q : ℕ) → box .answer p σ (Request r) ≡ Done (Granted r) → Holds σ k q
+      → lieAt (box .next p σ (Request r)) q ≢ lieAt σ q → NamesHeld box → ⊥
+  -- one whose grant takes a hold from a route, or leaves a listed point without the route's own, or gives one that nobody took; one whose cancel or whose
+  -- arrival drops the hold of another route, or keeps the one that it is to drop; and one that has a point lie otherwise than a holder would leave it
+  pub robberFails : (box : Box) (p : Plan) → Readable p → (σ : State) (event : Event) (r k q : ℕ) → box .answer p σ event ≡ Done (Granted r)
+      → (Holds σ k q × (Holds (box .next p σ event) k q → ⊥))
+      ⊎ ((k ≡ r) × (In q (routeOf p r .normal) ⊎ In q (routeOf p r .reverse)) × (Holds (box .next p σ event) k q → ⊥))
+      ⊎ ((Holds σ k q → ⊥) × ((k ≢ r) ⊎ (Listed p r q → ⊥)) × Holds (box .next p σ event) k q)
+      → KeepsOwn box → ⊥
+  pub clearerFails : (box : Box) (p : Plan) → Readable p → (σ : State) (event : Event) (r k q : ℕ) → box .answer p σ event ≡ Done (Cancelled r)
+      → ((k ≢ r) × Holds σ k q × (Holds (box .next p σ event) k q → ⊥)) ⊎ ((k ≡ r) × Holds (box .next p σ event) k q) → KeepsOwn box → ⊥
+  pub spenderFails : (box : Box) (p : Plan) → Readable p → (σ : State) (event : Event) (train u v k q : ℕ) → box .answer p σ event ≡ Done (Moved train u v)
+      → ((Releases p k v q → ⊥) × Holds σ k q × (Holds (box .next p σ event) k q → ⊥)) ⊎ (Releases p k v q × Holds (box .next p σ event) k q) → KeepsOwn box → ⊥
+  pub restlessFails : (box : Box) (p : Plan) → Readable p → (events : List Event) (r q : ℕ) → Holds (reached box p fresh events) r q
+      → (In q (routeOf p r .reverse) × (lieAt (reached box p fresh events) q ≢ reverseLie))
+      ⊎ ((In q (routeOf p r .reverse) → ⊥) × In q (routeOf p r .normal) × (lieAt (reached box p fresh events) q ≢ normalLie)) → Settled box → ⊥
   -- a box whose answer to a request goes by something that it doesn't look at
-  pub aloofFails : (box : Box) (p : Plan) → Readable p → (r : ℕ) (σ τ : State) → WellFormed p σ → WellFormed p τ → Alike p r σ τ
+  pub aloofFails : (box : Box) (p : Plan) → Readable p → (r : ℕ) (σ τ : State) → WellFormed p σ → WellFormed p τ
+      → shownAt σ (routeOf p r .start) ≡ shownAt τ (routeOf p r .start) → ((u : ℕ) → In u (routeOf p r .clear) → trainAt σ u ≡ trainAt τ u)
+      → ((q : ℕ) → In q (routeOf p r .normal) ⊎ In q (routeOf p r .reverse)
+      → ((k : ℕ) → heldBy σ k q ≡ heldBy τ k q) × (lieAt σ q ≡ lieAt τ q) × (trainAt σ q ≡ trainAt τ q))
       → box .answer p σ (Request r) ≢ box .answer p τ (Request r) → Agreement box → ⊥
   -- a writer that refuses everything, with 7 or for whatever reason; one that leaves another byte past the file than was there
   pub miserFails : (read : List ℕ → Got Plan) → Reads read → (writer : Writer) → ((image out : List ℕ) → (why : Unwritten) × (writer .answer image out ≡ Unwrote why))

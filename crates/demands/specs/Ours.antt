@@ -17,7 +17,7 @@ use Rattle.state.specs.State.{fresh}
 use Rattle.events.specs.Events.{eventsOf}
 use Rattle.events.specs.Decide.{answer}
 use Rattle.events.specs.After.{nextState}
-use Rattle.demands.specs.Demands.{Box, Demand2, Demand3, Reads, Writer, Writes, RoundTrip, Judges, NamesTrain, Agreement, Safe, history, reached}
+use Rattle.demands.specs.Demands.{Box, Demand2, Demand3, Reads, Writer, Writes, RoundTrip, Judges, NamesTrain, NamesHeld, KeepsOwn, Settled, Agreement, Safe, history, reached}
 
 -- the answer of events/specs/Decide.antt, and the state of events/specs/After.antt that goes by it
 abbrev pub ours : Box
@@ -47,7 +47,13 @@ pub record Shown : Type 0 where
   pub safe : Demand3 ours
   pub file-safe : (file bytes : List ℕ) {p : Plan} {at : ℕ} {rest : List ℕ} → parse file ≡ got p at rest → verdict p ≡ Accepted
       → Safe p (history ours p fresh (eventsOf bytes)) (reached ours p fresh (eventsOf bytes))
-  -- 13 names the train that stands on the track that it names
+  -- 13 names the lowest track of the clear list that has a train, and the train that stands there; and is said where it can be
   pub names-train : NamesTrain ours
+  -- 14 names the lowest point that is held and lies otherwise than the grant would leave it; what is granted turns no point that is held
+  pub names-held : NamesHeld ours
+  -- several routes may hold one point, and each gives back only its own hold
+  pub own-holds : KeepsOwn ours
+  -- a point lies as each of its holders would leave it, on bad plans too
+  pub settled : Settled ours
   -- two states that agree on what a request looks at
   pub agrees : Agreement ours

@@ -1,6 +1,6 @@
 -- What a step leaves: from what the state shows after an answer, what it showed before.
 use mathlib.Core.Path.{_≡_, refl, sym, ap, _∙_}
-use mathlib.Core.Logic.{_≢_, _⊎_, inl, inr}
+use mathlib.Core.Logic.{_≢_, _⊎_, inl, inr, _↔_}
 use Prim.Native.Nat.{ℕ, zero, suc}
 use native.Mathlib.Omega.{arith}
 use Rattle.laws.specs.Tests.{same?}
@@ -8,9 +8,9 @@ use Rattle.plan.specs.Records.{Plan, routeOf}
 use Rattle.plan.specs.Layout.{StandsAt}
 use Rattle.plan.specs.Routes.{Listed, Releases}
 use Rattle.state.specs.declared.State.{State}
-use Rattle.state.specs.State.{noTrain, red, greenFor, trainAt, shownAt, HasTrain, Holds}
-use Rattle.events.specs.Meaning.{AfterGrant, AfterCancel, AfterMove, AfterLeaving}
-use Rattle.events.proofs.Cases.{standsAt?, listed?, releases?}
+use Rattle.state.specs.State.{noTrain, red, greenFor, trainAt, lieAt, shownAt, HasTrain, Holds}
+use Rattle.events.specs.Meaning.{OtherLie, AfterGrant, AfterCancel, AfterMove, AfterLeaving}
+use Rattle.events.proofs.Cases.{in?, standsAt?, listed?, releases?}
 
 -- a signal that is green is not red
 pub green-red {ℓ} : {A : Type ℓ} (s r : ℕ) → s ≡ greenFor r → s ≡ red → A
@@ -34,6 +34,27 @@ module _ {p : Plan} {σ τ : State} {r : ℕ} (g : AfterGrant p σ τ r) where
     | inl e ↦ (elim (listed? p r x) [ inl l ↦ rw e (g .holds x l) | inr l ↦ g .otherHolds k x (inr l) ∙ h ])
     | inr e ↦ g .otherHolds k x (inl e) ∙ h
   ]
+
+  -- the points that lie otherwise than the grant would leave them are those that it turns
+  other-turned : (x : ℕ) → OtherLie p σ r x → lieAt τ x ≢ lieAt σ x
+  other-turned x (inl (w, d)) e = d (sym e ∙ g .reverse x w)
+  other-turned x (inr (n, w, d)) e = d (sym e ∙ g .normal x w n)
+
+  turned-other : (x : ℕ) → lieAt τ x ≢ lieAt σ x → OtherLie p σ r x
+  turned-other x d = elim (in? x (routeOf p r .reverse)) [
+    | inl w ↦ inl (w, λ z. d (g .reverse x w ∙ sym z))
+    | inr n ↦ (elim (in? x (routeOf p r .normal)) [
+      | inl w ↦ inr (n, w, λ z. d (g .normal x w n ∙ sym z))
+      | inr m ↦ absurd (d (g .otherLies x (λ l. elim l [ inl w ↦ m w | inr w ↦ n w ])))
+    ])
+  ]
+
+  pub grant-turns : (x : ℕ) → OtherLie p σ r x ↔ (lieAt τ x ≢ lieAt σ x)
+  grant-turns x = (other-turned x, turned-other x)
+
+  -- and all others keep their lie
+  pub grant-still : (x : ℕ) → (OtherLie p σ r x → ⊥) → lieAt τ x ≡ lieAt σ x
+  grant-still x n = elim (same? (lieAt τ x) (lieAt σ x)) [ inl e ↦ e | inr d ↦ absurd (n (turned-other x d)) ]
 
   pub grant-green : (s k : ℕ) → shownAt τ s ≡ greenFor k → ((s ≡ routeOf p r .start) × (k ≡ r)) ⊎ ((s ≢ routeOf p r .start) × (shownAt σ s ≡ greenFor k))
   grant-green s k e = elim (same? s (routeOf p r .start)) [

@@ -17,15 +17,15 @@ use Rattle.laws.specs.Search.{lowest, lowest-at, lowest-none, at-lowest}
 use Rattle.plan.specs.Kinds.{legged, out, leg}
 use Rattle.plan.specs.Records.{Plan, homeOf, routeOf, trackOf}
 use Rattle.plan.specs.Layout.{signalAt, StandsAt}
-use Rattle.plan.specs.Routes.{Listed, listed}
+use Rattle.plan.specs.Routes.{Listed}
 use Rattle.plan.specs.File.{Readable}
-use Rattle.plan.proofs.Says.{listed-is, legged-is}
+use Rattle.plan.proofs.Says.{legged-is}
 use Rattle.state.specs.declared.State.{State}
 use Rattle.state.specs.Holds.{empty}
-use Rattle.state.specs.State.{noTrain, normalLie, reverseLie, red, greenFor, trainAt, lieAt, heldBy, shownAt, HasTrain, WellFormed}
+use Rattle.state.specs.State.{noTrain, normalLie, reverseLie, red, greenFor, trainAt, lieAt, heldBy, shownAt, HasTrain, Holds, WellFormed}
 use Rattle.state.proofs.Holds.{some-member, member-some}
-use Rattle.events.specs.Decide.{hasTrain, isRed, isGreen, isReverse, busy, withTrain, busyTrain, heldListed, lieAfter, derails, stands, frontOf, inPlan, isFound, ifRed, redAt, wayOut, runsThrough}
-use Rattle.events.specs.Meaning.{Busy, Meets, HeldListed, OtherLie, Derails, FrontAt, InPlan, RedAt, Next, RunsThrough}
+use Rattle.events.specs.Decide.{hasTrain, isRed, isGreen, isReverse, busy, withTrain, busyTrain, isHeld, lieAfter, turns, heldOther, derails, stands, frontOf, inPlan, isFound, ifRed, redAt, wayOut, runsThrough}
+use Rattle.events.specs.Meaning.{Busy, Meets, OtherLie, HeldOther, Derails, FrontAt, InPlan, RedAt, Next, RunsThrough}
 use Rattle.events.proofs.Facts.{one-signal}
 
 -- A search over a test that tells what is so finds the lowest that is so.
@@ -62,6 +62,10 @@ module _ (σ : State) where
   unfolding isGreen shownAt
   green-tests s r = (eqb-true (getD (σ .signals) s 0) (suc r), eq-eqb (getD (σ .signals) s 0) (suc r))
 
+  pub held-tests : (q : ℕ) → Is (isHeld (σ .holds) q) ↔ ((k : ℕ) × Holds σ k q)
+  unfolding isHeld empty heldBy
+  held-tests q = (λ e. some-member (getD (σ .holds) q 0) (eqb-false _ 0 (not-t _ e)), λ s. not-i _ (ne-eqb _ 0 (member-some _ (s .0) (s .1))))
+
   pub reverse-true : (q : ℕ) → lieAt σ q ≡ reverseLie → isReverse (σ .lies) q ≡ true
   unfolding isReverse lieAt
   reverse-true q e = eq-eqb (getD (σ .lies) q 0) 1 e
@@ -88,17 +92,6 @@ module _ (p : Plan) (σ : State) where
       go Nothing e = search-none (busy-tells clear n h) e
 
   module _ (r n : ℕ) (h : (q : ℕ) → Listed p r q → q < n) where
-    pub held-tells : Tells n (heldListed (routeOf p r .normal) (routeOf p r .reverse) (σ .holds)) (HeldListed p σ r)
-    unfolding heldListed empty heldBy
-    held-tells = record {
-      says = λ q e. (
-        listed-is p r q .0 (and-r (not (eqb (getD (σ .holds) q 0) 0)) (listed (routeOf p r .normal) (routeOf p r .reverse) q) e),
-        some-member (getD (σ .holds) q 0) (eqb-false _ 0 (not-t _ (and-l (not (eqb (getD (σ .holds) q 0) 0)) (listed (routeOf p r .normal) (routeOf p r .reverse) q) e))),
-      );
-      hears = λ q s. and-i _ _ (not-i _ (ne-eqb _ 0 (member-some _ (s .1 .0) (s .1 .1)))) (listed-is p r q .1 (s .0));
-      inside = λ q s. h q (s .0);
-    }
-
     other-says : (q : ℕ) → lieAfter (routeOf p r .normal) (routeOf p r .reverse) (σ .lies) q ≢ lieAt σ q → OtherLie p σ r q
     unfolding lieAfter lieAt
     other-says q d = go (split (has q (routeOf p r .reverse))) (split (has q (routeOf p r .normal)))
@@ -118,14 +111,26 @@ module _ (p : Plan) (σ : State) where
     other-listed q (inl s) = inr (s .0)
     other-listed q (inr s) = inl (s .1)
 
-    abbrev turns : ℕ → Bool
-    turns q = not (eqb (lieAfter (routeOf p r .normal) (routeOf p r .reverse) (σ .lies) q) (getD (σ .lies) q 0))
+    abbrev turned : ℕ → Bool
+    turned q = turns (routeOf p r .normal) (routeOf p r .reverse) (σ .lies) q
+
+    turn-tests : (q : ℕ) → Is (turned q) ↔ OtherLie p σ r q
+    unfolding turns lieAt
+    turn-tests q = (λ e. other-says q (eqb-false _ _ (not-t _ e)), λ s. not-i _ (ne-eqb _ _ (other-hears q s)))
+
+    pub held-tells : Tells n (heldOther (routeOf p r .normal) (routeOf p r .reverse) (σ .lies) (σ .holds)) (HeldOther p σ r)
+    unfolding heldOther
+    held-tells = record {
+      says = λ q e. (held-tests σ q .0 (and-l (isHeld (σ .holds) q) (turned q) e), turn-tests q .0 (and-r (isHeld (σ .holds) q) (turned q) e));
+      hears = λ q s. and-i _ _ (held-tests σ q .1 (s .0)) (turn-tests q .1 (s .1));
+      inside = λ q s. h q (other-listed q (s .1));
+    }
 
     pub derails-tells : Tells n (derails (routeOf p r .normal) (routeOf p r .reverse) (σ .trains) (σ .lies)) (Derails p σ r)
-    unfolding derails lieAt
+    unfolding derails
     derails-tells = record {
-      says = λ q e. (train-tests σ q .0 (and-l (hasTrain (σ .trains) q) (turns q) e), other-says q (eqb-false _ _ (not-t _ (and-r (hasTrain (σ .trains) q) (turns q) e))));
-      hears = λ q s. and-i _ _ (train-tests σ q .1 (s .0)) (not-i _ (ne-eqb _ _ (other-hears q (s .1))));
+      says = λ q e. (train-tests σ q .0 (and-l (hasTrain (σ .trains) q) (turned q) e), turn-tests q .0 (and-r (hasTrain (σ .trains) q) (turned q) e));
+      hears = λ q s. and-i _ _ (train-tests σ q .1 (s .0)) (turn-tests q .1 (s .1));
       inside = λ q s. h q (other-listed q (s .1));
     }
 

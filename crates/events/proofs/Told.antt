@@ -17,14 +17,14 @@ use Rattle.events.specs.declared.Deed.the-variants.{Granted, Cancelled, 
 use Rattle.events.specs.declared.Answer.{Answer}
 use Rattle.events.specs.declared.Answer.the-variants.{Refused, Accident, Done}
 use Rattle.events.specs.Answers.{refusalNumber}
-use Rattle.events.specs.Meaning.{Busy, HeldListed, Derails, FrontAt, InPlan, RedAt, Next, RunsThrough, SignalGreen}
+use Rattle.events.specs.Meaning.{Busy, HeldOther, Derails, FrontAt, InPlan, RedAt, Next, RunsThrough, SignalGreen}
 
 module _ (p : Plan) (σ : State) where
   pub record Granting (r : ℕ) : Type 0 where
     pub formed : WellFormed p σ
     pub known : r < length (p .routes)
     pub clear : None (Busy p σ (routeOf p r .clear))
-    pub idle : None (HeldListed p σ r)
+    pub idle : None (HeldOther p σ r)
 
   pub record Cancelling (r : ℕ) : Type 0 where
     pub formed : WellFormed p σ

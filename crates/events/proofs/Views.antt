@@ -42,6 +42,18 @@ cell n g i h = elim (below? i n) [
 
 -- Holds dropped of several routes.
 
+-- a route that f doesn't name is there as before
+member-kept : (n : ℕ) (f : ℕ → Bool) (set k : ℕ) → (k < n → f k ≡ false) → member (droppedAll n f set) k ≡ member set k
+unfolding droppedAll
+member-kept zero f set k h = refl
+member-kept (suc n) f set k h = go (same? k n) (f n) refl (member-kept n f set k (λ b. h (omega arith)))
+  where
+    go : (k ≡ n) ⊎ (k ≢ n) → (b : Bool) → f n ≡ b → member (droppedAll n f set) k ≡ member set k
+        → member (cond b (excluding (droppedAll n f set) n) (droppedAll n f set)) k ≡ member set k
+    go (inl q) true z ih = clash (rw q z) (h (omega arith))
+    go (inr q) true z ih = member-excluding-other (droppedAll n f set) n k q ∙ ih
+    go q false z ih = ih
+
 droppedAll-le : (n : ℕ) (f : ℕ → Bool) (set : ℕ) → droppedAll n f set ≤ set
 unfolding droppedAll
 droppedAll-le zero f set = omega arith
@@ -63,18 +75,6 @@ member-dropped (suc n) f set k h e = go (same? k n) (f n) refl (member-dropped n
     go (inl q) false z ih = clash e (rw q z)
     go (inr q) true z ih = member-excluding-other (droppedAll n f set) n k q ∙ ih (omega arith) e
     go (inr q) false z ih = ih (omega arith) e
-
--- any other is there as before
-member-kept : (n : ℕ) (f : ℕ → Bool) (set k : ℕ) → (k < n → f k ≡ false) → member (droppedAll n f set) k ≡ member set k
-unfolding droppedAll
-member-kept zero f set k h = refl
-member-kept (suc n) f set k h = go (same? k n) (f n) refl (member-kept n f set k (λ b. h (omega arith)))
-  where
-    go : (k ≡ n) ⊎ (k ≢ n) → (b : Bool) → f n ≡ b → member (droppedAll n f set) k ≡ member set k
-        → member (cond b (excluding (droppedAll n f set) n) (droppedAll n f set)) k ≡ member set k
-    go (inl q) true z ih = clash (rw q z) (h (omega arith))
-    go (inr q) true z ih = member-excluding-other (droppedAll n f set) n k q ∙ ih
-    go q false z ih = ih
 
 module _ (p : Plan) (R : Readable p) (σ : State) (W : WellFormed p σ) where
   -- beyond the plan nothing is held

@@ -11,7 +11,6 @@ use Rattle.laws.specs.Search.{lowest, unless}
 use Rattle.plan.specs.Kinds.{exit, legged, out, leg}
 use Rattle.plan.specs.Records.{Plan, homeOf, routeOf, entryOf, trackOf}
 use Rattle.plan.specs.Layout.{signalAt}
-use Rattle.plan.specs.Routes.{listed}
 use Rattle.state.specs.declared.State.{State}
 use Rattle.state.specs.Holds.{empty}
 use Rattle.state.specs.State.{noTrain, normalLie, reverseLie, red, greenFor, wellFormed}
@@ -39,21 +38,29 @@ isGreen signals s r = eqb (getD signals s red) (greenFor r)
 unfoldable pub isReverse : List ℕ → ℕ → Bool
 isReverse lies q = eqb (getD lies q normalLie) reverseLie
 
+-- some route holds the point
+unfoldable pub isHeld : List ℕ → ℕ → Bool
+isHeld holds q = not (empty (getD holds q 0))
+
 -- a track of the clear list has a train
 unfoldable pub busy : List ℕ → List ℕ → ℕ → Bool
 busy clear trains u = hasTrain trains u && has u clear
-
--- a listed point is held by any route
-unfoldable pub heldListed : List ℕ → List ℕ → List ℕ → ℕ → Bool
-heldListed normal reverse holds q = not (empty (getD holds q 0)) && listed normal reverse q
 
 -- the lie in the end: normal points go normal, then reverse points reverse
 unfoldable pub lieAfter : List ℕ → List ℕ → List ℕ → ℕ → ℕ
 lieAfter normal reverse lies q = cond (has q reverse) reverseLie (cond (has q normal) normalLie (getD lies q normalLie))
 
+-- the point lies otherwise than the grant would leave it; one that is not listed never does
+unfoldable pub turns : List ℕ → List ℕ → List ℕ → ℕ → Bool
+turns normal reverse lies q = not (eqb (lieAfter normal reverse lies q) (getD lies q normalLie))
+
+-- a listed point is held by any route and lies otherwise than the grant would leave it
+unfoldable pub heldOther : List ℕ → List ℕ → List ℕ → List ℕ → ℕ → Bool
+heldOther normal reverse lies holds q = isHeld holds q && turns normal reverse lies q
+
 -- a point that has a train gets another lie in the end
 unfoldable pub derails : List ℕ → List ℕ → List ℕ → List ℕ → ℕ → Bool
-derails normal reverse trains lies q = hasTrain trains q && not (eqb (lieAfter normal reverse lies q) (getD lies q normalLie))
+derails normal reverse trains lies q = hasTrain trains q && turns normal reverse lies q
 
 -- the train stands on the track
 unfoldable pub stands : List ℕ → ℕ → ℕ → Bool
@@ -75,8 +82,8 @@ unfoldable pub unlessTrain : Met → (ℕ → ℕ → Answer) → Answer → Ans
 unlessTrain (Train u train) f rest = f u train
 unlessTrain Nobody f rest = rest
 
-unfoldable pub heldPoint : ℕ → List ℕ → List ℕ → List ℕ → Found
-heldPoint tracks normal reverse holds = lowest tracks (heldListed normal reverse holds)
+unfoldable pub heldPoint : ℕ → List ℕ → List ℕ → List ℕ → List ℕ → Found
+heldPoint tracks normal reverse lies holds = lowest tracks (heldOther normal reverse lies holds)
 
 unfoldable pub derailedPoint : ℕ → List ℕ → List ℕ → List ℕ → List ℕ → Found
 derailedPoint tracks normal reverse trains lies = lowest tracks (derails normal reverse trains lies)
@@ -118,7 +125,7 @@ module _ (p : Plan) where
   answerRequest σ r =
       cond (isRed (σ .signals) (routeOf p r .start))
       (unlessTrain (busyTrain (length (p .tracks)) (routeOf p r .clear) (σ .trains)) (λ u train. Refused (Occupied u train))
-      (unless (heldPoint (length (p .tracks)) (routeOf p r .normal) (routeOf p r .reverse) (σ .holds)) (λ q. Refused (Held q))
+      (unless (heldPoint (length (p .tracks)) (routeOf p r .normal) (routeOf p r .reverse) (σ .lies) (σ .holds)) (λ q. Refused (Held q))
       (unless (derailedPoint (length (p .tracks)) (routeOf p r .normal) (routeOf p r .reverse) (σ .trains) (σ .lies)) (λ q. Accident (Derailment q))
       (Done (Granted r)))))
       (Refused NotRed)

@@ -43,16 +43,17 @@ module _ (p : Plan) (σ : State) where
   Meets clear (Train u train) = LowestSuch (Busy clear) u × (trainAt σ u ≡ train)
   Meets clear Nobody = None (Busy clear)
 
-  -- a listed point is held by any route
-  abbrev pub HeldListed : ℕ → ℕ → Type 0
-  HeldListed r q = Listed p r q × ((k : ℕ) × Holds σ k q)
-
-  -- the request would give the point another lie in the end
+  -- the point lies otherwise than the grant would leave it: reverse wins, and one that is not listed never does
   abbrev pub OtherLie : ℕ → ℕ → Type 0
   OtherLie r q =
       (In q (routeOf p r .reverse) × (lieAt σ q ≢ reverseLie))
       ⊎ ((In q (routeOf p r .reverse) → ⊥) × In q (routeOf p r .normal) × (lieAt σ q ≢ normalLie))
 
+  -- a listed point is held by any route, the one that asks too, and lies otherwise than the grant would leave it
+  abbrev pub HeldOther : ℕ → ℕ → Type 0
+  HeldOther r q = ((k : ℕ) × Holds σ k q) × OtherLie r q
+
+  -- a point that has a train would get another lie in the end
   abbrev pub Derails : ℕ → ℕ → Type 0
   Derails r q = HasTrain σ q × OtherLie r q
 
@@ -93,7 +94,7 @@ module _ (p : Plan) (σ : State) where
       needs (r < length (p .routes)) (Refused BadEvent)
       (needs (SignalRed r) (Refused NotRed)
       (names (Busy (routeOf p r .clear)) (λ u. Refused (Occupied u (trainAt σ u)))
-      (names (HeldListed r) (λ q. Refused (Held q))
+      (names (HeldOther r) (λ q. Refused (Held q))
       (names (Derails r) (λ q. Accident (Derailment q))
       (last (Done (Granted r)))))))
 

@@ -1,10 +1,12 @@
 //! Counting what the cases have reached, so that nothing goes untried unnoticed.
 
+use super::before;
 use super::calls::{self, Kind, Kinds};
 use super::dropped::{self, Tried};
 use super::flaws::{self, FLAWS};
 use super::images;
 use super::rarest::{self, Spread};
+use super::shared::{self, Notes};
 use super::special::{self, SPECIALS};
 use super::walks;
 use crate::book::MODEL;
@@ -52,7 +54,11 @@ pub struct Counts {
     pub specials: Vec<u64>,
     /// Where 13, 14 and 42 find what they look for in their lists.
     pub walks: [u64; walks::KINDS],
-    /// The same by the list's length, and by the number of the route or the entry.
+    /// What stands before the point that 14 names.
+    pub before: [u64; before::KINDS],
+    /// Points that are held, by how many routes and by which.
+    pub shared: [u64; shared::KINDS],
+    /// By the length of a list, and by the number of a route, an entry, a train or a track.
     pub spread: Spread,
     pub flaws: Vec<u64>,
     /// Pairs of agreeing states by the answer to the request.
@@ -76,6 +82,8 @@ impl Default for Counts {
             answers: [[0; ANSWERS]; EVENT_KINDS.len()],
             specials: vec![0; SPECIALS.len()],
             walks: [0; walks::KINDS],
+            before: [0; before::KINDS],
+            shared: [0; shared::KINDS],
             spread: rarest::NONE,
             flaws: vec![0; FLAWS.len()],
             pairs: [0; ANSWERS],
@@ -149,7 +157,8 @@ impl Counts {
         for event in case.events.chunks(3) {
             before.clone_from(&state);
             let answer = step(plan, &mut state, event);
-            self.count_step(plan, &before, &state, event, &answer);
+            let in_order = verdict == Verdict::Accepted;
+            self.count_step(plan, [&before, &state], event, &answer, in_order);
         }
         for (arrays, event) in &case.steps {
             self.observe_single(plan, arrays, event);
@@ -167,7 +176,7 @@ impl Counts {
             Some(mut state) => {
                 let before = state.clone();
                 let answer = step(plan, &mut state, event);
-                self.count_step(plan, &before, &state, event, &answer);
+                self.count_step(plan, [&before, &state], event, &answer, false);
             }
             None => {
                 self.count_answer(event, &Answer::Refused(Refusal::NotWellFormed));
@@ -178,13 +187,14 @@ impl Counts {
         }
     }
 
+    /// `in_order` in a whole run on an accepted plan.
     fn count_step(
         &mut self,
         plan: &Plan,
-        before: &State,
-        after: &State,
+        [before, after]: [&State; 2],
         event: &[u8],
         answer: &Answer,
+        in_order: bool,
     ) {
         self.count_answer(event, answer);
         let specials = &mut self.specials;
@@ -193,6 +203,12 @@ impl Counts {
         });
         walks::of_answer(plan, before, event, answer, &mut self.walks);
         rarest::of_answer(plan, before, event, answer, &mut self.spread);
+        if let Answer::Refused(Refusal::PointHeld { point }) = *answer {
+            let route = &plan.routes[usize::from(event[1])];
+            before::of_named(before, route, point, &mut self.before);
+        }
+        let mut notes = Notes::new(&mut self.shared, in_order);
+        shared::of_answer(plan, before, after, event, answer, &mut notes);
     }
 
     fn count_answer(&mut self, event: &[u8], answer: &Answer) {

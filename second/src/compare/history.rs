@@ -1,10 +1,11 @@
 //! What must be true of any box, seen from outside on its answers alone: it answers every event,
-//! trains come and go one at a time, holds are what history says, and a refusal changes nothing.
+//! trains come and go one at a time, holds are what history says, all holders of a point list it in the
+//! lie it has, and a refusal changes nothing.
 
 use crate::generate::case::Pair;
 use crate::model::answer::{Answer, Verdict};
-use crate::model::plan::{Plan, MOST_TRACKS};
-use crate::model::state::Arrays;
+use crate::model::plan::{Plan, Route, MOST_TRACKS};
+use crate::model::state::{Arrays, RouteSet};
 use crate::subject::Prepared;
 use std::fmt::Write;
 
@@ -128,7 +129,7 @@ impl<'a> History<'a> {
         if self.accepted {
             self.compare_holds(after)?;
         }
-        Ok(())
+        self.compare_lies(after)
     }
 
     /// Writes the answer down; nothing if it names a route or track that does not exist.
@@ -190,5 +191,22 @@ impl<'a> History<'a> {
             after.holds == expected,
             "the holds are not those of history",
         )
+    }
+
+    /// All holders of a point list it in the lie it has. A point can't turn while it is held, so that
+    /// this is true of every readable plan; on an accepted one the holders are those of history.
+    fn compare_lies(&self, after: &Arrays) -> Finding {
+        let held = (0..self.plan.tracks.len()).filter(|&point| after.holds[point] != 0);
+        for point in held {
+            let is_listed = |route: &Route| match after.lies[point] {
+                0 => route.normal.contains(&point),
+                _ => route.reverse.contains(&point),
+            };
+            for route in RouteSet::of_bits(after.holds[point]).routes() {
+                let is_so = self.plan.routes.get(route).is_some_and(is_listed);
+                demand(is_so, "a holder of a point does not list it in its lie")?;
+            }
+        }
+        Ok(())
     }
 }

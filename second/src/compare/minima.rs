@@ -1,17 +1,19 @@
 //! The printed counts, and what there must be of each.
 
+use super::before;
 use super::calls;
 use super::counts::{Counts, CANCELLED, ENTERED, EVENT_KINDS, GRANTED, LEFT, MOVED};
 use super::dropped::HELD;
 use super::flaws::FLAWS;
 use super::images;
 use super::rarest;
+use super::shared;
 use super::special::SPECIALS;
 use super::walks;
 use crate::generate::faults::{can_occur, PLACES};
 
 /// Fewer than this of anything that can occur is a failure.
-const LEAST: u64 = 100;
+pub const LEAST: u64 = 100;
 
 /// One line of the report; `least` is 0 where nothing is demanded.
 struct Line {
@@ -140,8 +142,11 @@ fn named_lines<'a>(names: &'a [&str], counts: &'a [u64]) -> impl Iterator<Item =
 
 fn walk_lines(counts: &Counts) -> impl Iterator<Item = Line> + '_ {
     let pairs = walks::names().into_iter().zip(counts.walks);
-    let pairs = pairs.chain(rarest::of_each(&counts.spread));
-    pairs.map(|(name, count)| Line::needed(name, count))
+    let pairs = pairs.chain(before::names().into_iter().zip(counts.before));
+    let pairs = pairs.chain(shared::names().into_iter().zip(counts.shared));
+    let lines = pairs.map(|(name, count)| Line::needed(name, count));
+    let rarest = rarest::of_each(&counts.spread);
+    lines.chain(rarest.map(|(name, count, least)| Line { name, count, least }))
 }
 
 fn pair_lines(counts: &Counts) -> Vec<Line> {

@@ -1,5 +1,6 @@
 //! The comparison of a subject with the model.
 
+mod before;
 mod calls;
 pub mod causes;
 pub mod counts;
@@ -12,6 +13,7 @@ pub mod history;
 mod images;
 pub mod minima;
 mod rarest;
+mod shared;
 pub mod shrink;
 pub mod shrink_file;
 mod shrink_plan;

@@ -6,7 +6,7 @@ use super::special::kinds_in_words;
 use crate::model::answer::{Accident, Answer, Refusal};
 use crate::model::plan::{Lie, Plan, Route};
 use crate::model::state::State;
-use crate::model::step::lie_in_the_end;
+use crate::model::step::{is_held, would_turn};
 
 // What a clear list is like and where in it 13 finds a train. An empty list has no hit: that is tried
 // first.
@@ -30,8 +30,8 @@ kinds_in_words! { Clear, CLEARS:
     ManyLast "at the last place of more than 48 that are not all",
 }
 
-// What the two lists of points are like and where in them 14 finds a hold, or 42 a train on a point
-// that would turn.
+// What the two lists of points are like and where in them 14 finds a held point that would turn, or 42
+// one with a train.
 kinds_in_words! { Point, POINTS:
     BothEmpty "passed with both lists empty and a point elsewhere that is held or has a train",
     NormalAlone "in the normal list alone",
@@ -271,14 +271,15 @@ fn place_of(list: &[usize], number: usize) -> Option<usize> {
     list.binary_search(&number).ok()
 }
 
-/// 14, or its being passed.
+/// 14, or its being passed. What is held and lies right is no hit.
 fn of_held(before: &State, route: &Route, answer: &Answer, note: impl FnMut(Point)) {
-    let is_held = |point: usize| !before.holds[point].is_empty();
+    let held = |point: usize| is_held(before, point);
+    let is_hit = |point: usize| held(point) && would_turn(before, route, point);
     match *answer {
         Answer::Refused(Refusal::PointHeld { point }) => {
-            of_points(route, point, is_held, is_held, note)
+            of_points(route, point, is_hit, held, note)
         }
-        Answer::Granted { .. } => passed(before, route, is_held, note),
+        Answer::Granted { .. } => passed(before, route, held, note),
         _ => {}
     }
 }
@@ -292,11 +293,10 @@ fn of_derailed(
     note: impl FnMut(Point),
 ) {
     let has_train = |point: usize| plan.is_point(point) && before.trains[point].is_some();
-    let would_turn =
-        |point: usize| has_train(point) && lie_in_the_end(route, point) != before.lies[point];
+    let is_hit = |point: usize| has_train(point) && would_turn(before, route, point);
     match *answer {
         Answer::Accident(Accident::Derailment { point }) => {
-            of_points(route, point, would_turn, has_train, note)
+            of_points(route, point, is_hit, has_train, note)
         }
         Answer::Granted { .. } => passed(before, route, has_train, note),
         _ => {}

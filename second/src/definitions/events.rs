@@ -6,7 +6,7 @@ use crate::model::answer::{Accident, Answer, Refusal};
 use crate::model::plan::Plan;
 use crate::model::reading::read;
 use crate::model::state::State;
-use crate::model::step::{enter, lie_in_the_end, move_train, step};
+use crate::model::step::{enter, is_held, lie_in_the_end, move_train, step, would_turn};
 use crate::subject::EVENT;
 
 pub fn all() -> Vec<Definition> {
@@ -192,9 +192,10 @@ fn other_names() -> Vec<Definition> {
             "14 names the highest point",
             |plan, state, event| match step(plan, state, event) {
                 Answer::Refused(Refusal::PointHeld { .. }) => {
-                    let listed = plan.routes[requested(event)].listed();
-                    let held = listed.filter(|&point| !state.holds[point].is_empty());
-                    let point = held.max().expect("one is held");
+                    let route = &plan.routes[requested(event)];
+                    let is_hit =
+                        |&point: &usize| is_held(state, point) && would_turn(state, route, point);
+                    let point = route.listed().filter(is_hit).max().expect("one is held");
                     Answer::Refused(Refusal::PointHeld { point })
                 }
                 answer => answer,

@@ -15,7 +15,10 @@ const ANSWERS: [(u32, &str); 13] = [
         13,
         "request or entry: a track of its clear list has a train",
     ),
-    (14, "request: a listed point is held by any route"),
+    (
+        14,
+        "request: a listed point is held by any route and lies otherwise",
+    ),
     (15, "cancel: start signal not green for this route"),
     (16, "cancel: home track has a train"),
     (17, "entry: train already in the plan"),

@@ -83,10 +83,17 @@ fn played_by(
 }
 
 /// Mutants that no session from the fresh state can show: there each hold of a route is of a point
-/// that it lists, and no point is held by two routes.
+/// that it lists, and the point lies as the route left it.
 const NEVER_FRESH: &[&str] = &[
     "a cancel drops listed holds alone",
-    "a cancel drops other routes' holds",
+    "14 passes the route's own holds",
+    "14 where a holder wants the point otherwise, however it lies",
+    "14 where all holders want the point otherwise, however it lies",
+    "14 where a holder wants the point otherwise and it would turn",
+    "14 by the lowest holder, if it is another",
+    "14 by the highest holder, if it is another",
+    "a held point leads as its lowest holder lists it",
+    "a held point leads as its highest holder lists it",
 ];
 
 /// Where a mutant must be caught.
@@ -95,7 +102,7 @@ pub enum Held {
     BySessions,
     /// In the single steps of `steps.txt`, and in cases from seeds.
     ByCases,
-    /// It is no matter of the document.
+    /// It is no matter of the document, or of more holds than any session has.
     Elsewhere,
 }
 
@@ -105,7 +112,7 @@ pub fn held(mutant: &Mutant) -> Held {
     match mutant.shows {
         Shows::InSessions if !is_by_cases => Held::BySessions,
         Shows::InSessions | Shows::InSteps => Held::ByCases,
-        Shows::InCalls => Held::Elsewhere,
+        Shows::InCases | Shows::InCalls => Held::Elsewhere,
     }
 }
 

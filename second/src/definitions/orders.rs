@@ -5,7 +5,7 @@ use super::Definition;
 use crate::model::answer::{Accident, Answer, Refusal};
 use crate::model::plan::{Plan, Route};
 use crate::model::state::State;
-use crate::model::step::{lowest_derailed, lowest_held, open_leg, step, way_out};
+use crate::model::step::{lowest_derailed, lowest_held_otherwise, open_leg, step, way_out};
 
 /// What a test would answer, if it applies, also where the event is none for an unused byte, a train
 /// of number 0 or an entry that there is not.
@@ -82,7 +82,7 @@ fn train(plan: &Plan, state: &State, event: &[u8]) -> Option<Answer> {
 
 fn held(plan: &Plan, state: &State, event: &[u8]) -> Option<Answer> {
     let (_, route) = route(plan, event, 1)?;
-    let point = lowest_held(state, route)?;
+    let point = lowest_held_otherwise(state, route)?;
     Some(Answer::Refused(Refusal::PointHeld { point }))
 }
 

@@ -4,7 +4,7 @@ use super::events::{self, Event};
 use super::images::{self, Writing};
 use super::lists::{self, List};
 use super::pieces::{self, Pieces};
-use super::{accepted, broken, faults, states, walks, wild};
+use super::{accepted, broken, faults, shared, states, walks, wild};
 use crate::model::plan::Plan;
 use crate::model::reading::read;
 use crate::model::rules;
@@ -82,6 +82,8 @@ fn with_readable(random: &mut Random, file: Vec<u8>, plan: &Plan) -> Case {
     let mut steps: Vec<(Arrays, Event)> = (0..5).map(|_| single_step(random, plan)).collect();
     let walks = (0..walks::count(plan)).filter_map(|_| walks::walk(random, plan));
     steps.extend(walks.map(|(state, event)| (state.to_arrays(), event)));
+    let given = (0..walks::count(plan) / 2).filter_map(|_| shared::giving_back(random, plan));
+    steps.extend(given.map(|(state, event)| (state.to_arrays(), event)));
     let pairs = pair(random, plan).into_iter().collect();
     let list = lists::list(random, plan, &events);
     let mut pieces = vec![pieces::pieces(random, plan, &events)];

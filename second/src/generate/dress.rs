@@ -6,14 +6,15 @@ use crate::random::Random;
 
 /// An accepted plan over this layout.
 pub fn dress(random: &mut Random, layout: &Layout) -> Plan {
+    let manner = Manner::any(random);
     let mut routes = Vec::new();
     for (start, &home) in layout.homes.iter().enumerate() {
         for path in paths(random, layout, home) {
-            routes.extend(route(random, layout, start, path));
+            routes.extend(route(random, layout, start, path, manner));
         }
     }
     if random.chance(20) {
-        double_some(random, layout, &mut routes);
+        double_some(random, layout, &mut routes, manner);
     }
     random.shuffle(&mut routes);
     routes.truncate(*plan::ROUTES.end());
@@ -25,11 +26,30 @@ pub fn dress(random: &mut Random, layout: &Layout) -> Plan {
     }
 }
 
+/// How the routes of a plan go about points off their paths.
+#[derive(Clone, Copy)]
+enum Manner {
+    /// Each by itself.
+    Apart,
+    /// Mostly the same points in the same lies, and given back late, so that many routes hold one point
+    /// at once. The number decides which points and lies.
+    Together(usize),
+}
+
+impl Manner {
+    fn any(random: &mut Random) -> Self {
+        match random.chance(30) {
+            true => Manner::Together(random.below(64)),
+            false => Manner::Apart,
+        }
+    }
+}
+
 /// The same way once more, with other flank points, clear tracks and releases.
-fn double_some(random: &mut Random, layout: &Layout, routes: &mut Vec<Route>) {
+fn double_some(random: &mut Random, layout: &Layout, routes: &mut Vec<Route>, manner: Manner) {
     for place in 0..routes.len() {
         let (start, path) = (routes[place].start, routes[place].path.clone());
-        routes.extend(route(random, layout, start, path));
+        routes.extend(route(random, layout, start, path, manner));
     }
 }
 
@@ -56,15 +76,21 @@ fn paths(random: &mut Random, layout: &Layout, home: usize) -> Vec<Vec<usize>> {
 }
 
 /// A route along a path, or nothing if it would list more points than a plan can hold.
-fn route(random: &mut Random, layout: &Layout, start: usize, path: Vec<usize>) -> Option<Route> {
+fn route(
+    random: &mut Random,
+    layout: &Layout,
+    start: usize,
+    path: Vec<usize>,
+    manner: Manner,
+) -> Option<Route> {
     let (mut normal, mut reverse) = lies_on_the_way(layout, layout.homes[start], &path);
-    add_flank_points(random, layout, &path, &mut normal, &mut reverse);
+    add_flank_points(random, layout, &path, manner, [&mut normal, &mut reverse]);
     if normal.len() > *plan::POINTS.end() || reverse.len() > *plan::POINTS.end() {
         return None;
     }
     normal.sort_unstable();
     reverse.sort_unstable();
-    let releases = releases(random, &path, &normal, &reverse);
+    let releases = releases(random, &path, &normal, &reverse, manner);
     let needed = path.iter().chain(&normal).chain(&reverse).copied();
     let clear = with_extras(random, layout, needed.collect());
     Some(Route {
@@ -102,20 +128,31 @@ fn add_flank_points(
     random: &mut Random,
     layout: &Layout,
     path: &[usize],
-    normal: &mut Vec<usize>,
-    reverse: &mut Vec<usize>,
+    manner: Manner,
+    [normal, reverse]: [&mut Vec<usize>; 2],
 ) {
     let off_path = |track: &usize| layout.tracks[*track].is_point() && !path.contains(track);
     let mut flank: Vec<usize> = (0..layout.tracks.len()).filter(off_path).collect();
-    random.shuffle(&mut flank);
-    let wanted = [0, 0, 1, 2, 4][random.below(5)];
+    let wanted = match manner {
+        Manner::Apart => {
+            random.shuffle(&mut flank);
+            [0, 0, 1, 2, 4][random.below(5)]
+        }
+        Manner::Together(number) => {
+            // The same ones first.
+            flank.sort_by_key(|point| (point * 29 + number) % 64);
+            [1, 1, 2, 3][random.below(4)]
+        }
+    };
     for &point in flank.iter().take(wanted) {
-        let list = if random.chance(50) {
-            &mut *normal
-        } else {
-            &mut *reverse
+        let is_normal = match manner {
+            Manner::Together(number) if random.chance(90) => (point + number) % 2 == 0,
+            _ => random.chance(50),
         };
-        list.push(point);
+        match is_normal {
+            true => normal.push(point),
+            false => reverse.push(point),
+        }
     }
 }
 
@@ -125,13 +162,16 @@ fn releases(
     path: &[usize],
     normal: &[usize],
     reverse: &[usize],
+    manner: Manner,
 ) -> Vec<Release> {
     let mut points: Vec<usize> = normal.iter().chain(reverse).copied().collect();
     points.sort_unstable();
     let release = |point: usize| {
         let place = path.iter().position(|&track| track == point);
         let earliest = place.map_or(0, |place| place + 1);
+        let is_late = matches!(manner, Manner::Together(_)) && random.chance(50);
         let chosen = match random.below(3) {
+            _ if is_late => path.len() - 1,
             0 => earliest,
             1 => path.len() - 1,
             _ => random.between(earliest, path.len() - 1),

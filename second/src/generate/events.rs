@@ -259,7 +259,8 @@ fn occupied(state: &State) -> Vec<usize> {
 
 fn is_promising(plan: &Plan, state: &State, number: usize) -> bool {
     let route = &plan.routes[number];
-    state.first_train_on(&route.clear).is_none() && step::lowest_held(state, route).is_none()
+    state.first_train_on(&route.clear).is_none()
+        && step::lowest_held_otherwise(state, route).is_none()
 }
 
 /// A new train where it can get on: a train that no route takes up again may block everything.

@@ -14,6 +14,7 @@ pub mod lists;
 pub mod pieces;
 mod renumber;
 mod shapes;
+pub mod shared;
 mod sketch;
 pub mod states;
 pub mod walks;

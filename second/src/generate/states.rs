@@ -9,7 +9,7 @@ pub fn well_formed(random: &mut Random, plan: &Plan) -> State {
     let mut state = State::fresh(plan);
     place_trains(random, &mut state);
     let reverse = random.pick(&[0, 50, 50, 100]).unwrap_or(50);
-    let held = random.pick(&[0, 0, 10, 50]).unwrap_or(0);
+    let held = random.pick(&[0, 0, 10, 50, 85]).unwrap_or(0);
     for track in (0..plan.tracks.len()).filter(|&track| plan.is_point(track)) {
         if random.chance(reverse) {
             state.lies[track] = Lie::Reverse;

@@ -1,11 +1,13 @@
 //! Plans and states for the tests that walk a list, which are those behind 13, 14 and 42: lists of
 //! every length, or that are empty, hold all tracks or share a point, and a hit at either end of a
-//! list, in between or nowhere, with trains and holds beside it that are none of the list's business.
+//! list, in between or nowhere, with trains and holds beside it that are none of the list's business, and
+//! holds of listed points that lie right.
 
 use super::events::Event;
-use super::{accepted, largest, wild};
-use crate::model::plan::{self, Lie, Plan, Route};
+use super::{accepted, largest, shared, wild};
+use crate::model::plan::{self, Lie, Plan, Release, Route};
 use crate::model::state::State;
+use crate::model::step::lie_in_the_end;
 use crate::random::Random;
 
 /// A readable plan with other lists than it should have.
@@ -20,10 +22,14 @@ pub fn relisted(random: &mut Random) -> Plan {
 /// As many tracks, routes and entries as there can be. For each list a length is chosen first, so
 /// that each is as likely as any other; a share of the tracks would hardly ever give some of them.
 fn of_every_length(random: &mut Random) -> Plan {
-    let mut plan = largest::busy(random);
+    let mut plan = match random.chance(35) {
+        true => wild::full_of_points(random),
+        false => largest::busy(random),
+    };
     let tracks: Vec<usize> = (0..plan.tracks.len()).collect();
     let points = points_of(&plan);
     let most = *plan::POINTS.end();
+    let releases = Releases::of(random, &plan);
     for route in &mut plan.routes {
         route.normal = some_of(random, &points, most);
         // A point of both lists is no hit of one of them alone.
@@ -33,14 +39,57 @@ fn of_every_length(random: &mut Random) -> Plan {
         // A point that is listed and not clear: 42 can come.
         let rest = without(random, 25, &tracks, &listed);
         route.clear = some_of(random, &rest, rest.len());
-        // No request looks at these, and the file stays short.
+        // No event looks at these, and the file stays short.
         route.path.truncate(1);
-        route.releases.clear();
+        route.releases = releases.some(random, &points);
     }
     for entry in &mut plan.entries {
         entry.clear = some_of(random, &tracks, tracks.len());
     }
     plan
+}
+
+/// Where the routes of a plan give back which points, listed or not.
+struct Releases {
+    /// Tracks to which a train can come.
+    tracks: Vec<usize>,
+    /// Now and then most routes give back all of theirs at this one.
+    meeting: Option<usize>,
+    /// And then all of them the same, as many as there can be.
+    are_full: bool,
+}
+
+impl Releases {
+    fn of(random: &mut Random, plan: &Plan) -> Self {
+        let is_led_to = |to: &usize| {
+            let mut others = (0..plan.tracks.len()).filter(|from| from != to);
+            others.any(|from| plan.tracks[from].leads_to(*to))
+        };
+        let tracks: Vec<usize> = (0..plan.tracks.len()).filter(is_led_to).collect();
+        let meeting = random.pick(&tracks).filter(|_| random.chance(25));
+        Releases {
+            tracks,
+            meeting,
+            are_full: random.chance(50),
+        }
+    }
+
+    /// As likely few as many, mostly all at one track.
+    fn some(&self, random: &mut Random, points: &[usize]) -> Vec<Release> {
+        let most = *plan::RELEASES.end();
+        let mut given_back = some_of(random, points, most);
+        let meeting = self.meeting.filter(|_| self.are_full || random.chance(90));
+        if meeting.is_some() && self.are_full {
+            given_back = points[..most].to_vec();
+        }
+        let own = random.pick(&self.tracks).filter(|_| random.chance(75));
+        let one = meeting.or(own);
+        let release = |point| Release {
+            track: one.or_else(|| random.pick(&self.tracks)).unwrap_or(0),
+            point,
+        };
+        given_back.into_iter().map(release).collect()
+    }
 }
 
 fn points_of(plan: &Plan) -> Vec<usize> {
@@ -156,7 +205,7 @@ fn put(list: &mut Vec<usize>, item: usize) {
 /// How many are tried on a plan: more where lists are long and have many places.
 pub fn count(plan: &Plan) -> usize {
     match plan.tracks.len() == *plan::TRACKS.end() {
-        true => 40,
+        true => 48,
         false => 2,
     }
 }
@@ -205,12 +254,23 @@ fn can_derail(route: &Route) -> bool {
 
 fn requesting(random: &mut Random, plan: &Plan) -> Option<(State, Event)> {
     // Clear lists have the most lengths.
-    let test = [13, 13, 14, 42][random.below(4)];
+    let test = match random.below(18) {
+        0..=7 => 13,
+        8..=13 => 14,
+        _ => 42,
+    };
     let has_it = match test {
         42 => can_derail,
         _ => has_lists,
     };
-    let number = number_of(random, plan, has_it);
+    // Now and then the one that lists the most points, with any number of them in the way.
+    let is_full = test == 14 && random.chance(20);
+    let number = match is_full {
+        true => {
+            (0..plan.routes.len()).max_by_key(|&number| plan.routes[number].listed().count())?
+        }
+        false => number_of(random, plan, has_it),
+    };
     let route = plan.routes.get(number)?;
     let listed: Vec<usize> = route.listed().collect();
     let numbers = Numbers::any(random);
@@ -222,12 +282,8 @@ fn requesting(random: &mut Random, plan: &Plan) -> Option<(State, Event)> {
                 numbers.place(&mut state, track);
             }
         }
-        14 => {
-            for point in hits_of_both(random, route) {
-                state.holds[point].insert(random.below(plan.routes.len()));
-            }
-        }
-        _ => place_under_trains(random, route, &mut state, numbers),
+        14 => hold_otherwise(random, plan, number, &mut state, is_full),
+        _ => place_under_trains(random, plan, number, &mut state, numbers),
     }
     Some((state, [1, number as u8, 0]))
 }
@@ -317,13 +373,68 @@ fn hits_of_both(random: &mut Random, route: &Route) -> Vec<usize> {
     lists.iter().flat_map(|list| hits(random, list)).collect()
 }
 
+/// Any number of listed points, now and then all.
+fn any_number(random: &mut Random, route: &Route) -> Vec<usize> {
+    let mut points: Vec<usize> = route.listed().collect();
+    if random.chance(75) {
+        random.shuffle(&mut points);
+        points.truncate(random.between(0, points.len()));
+    }
+    points
+}
+
+/// Listed points that are held and would turn, and others that are not in the way: held and lying right,
+/// or not held, whether they would turn or not.
+fn hold_otherwise(
+    random: &mut Random,
+    plan: &Plan,
+    number: usize,
+    state: &mut State,
+    is_full: bool,
+) {
+    let route = &plan.routes[number];
+    let hits = match is_full {
+        true => any_number(random, route),
+        false => hits_of_both(random, route),
+    };
+    // What the others are: all alike, or each by itself.
+    let alike = [0, 1, 1, 1, 1, 1, 2, 3, 3][random.below(9)];
+    let by_itself = random.chance(10);
+    for point in route.listed() {
+        let is_hit = hits.contains(&point);
+        let kind = match alike {
+            3 => random.below(3),
+            kind => kind,
+        };
+        let in_the_end = lie_in_the_end(route, point);
+        state.lies[point] = match is_hit || kind == 2 {
+            true => other(in_the_end),
+            false => in_the_end,
+        };
+        if is_hit && by_itself {
+            state.holds[point].insert(number);
+        } else if is_hit || kind == 1 {
+            shared::hold(random, plan, state, point);
+        }
+    }
+}
+
 /// Trains on listed points, which would turn under them or keep their lie. Those of the clear list
-/// stay free, so that 13 does not come before 42.
-fn place_under_trains(random: &mut Random, route: &Route, state: &mut State, numbers: Numbers) {
+/// stay free, so that 13 does not come before 42; and only points that lie right are held, so that 14
+/// does not.
+fn place_under_trains(
+    random: &mut Random,
+    plan: &Plan,
+    number: usize,
+    state: &mut State,
+    numbers: Numbers,
+) {
+    let route = &plan.routes[number];
     let hits = hits_of_both(random, route);
+    let held = [0, 0, 0, 30, 100][random.below(5)];
     for point in route.listed().filter(|point| !route.clear.contains(point)) {
         let is_hit = hits.contains(&point);
-        let in_the_end = crate::model::step::lie_in_the_end(route, point);
+        let in_the_end = lie_in_the_end(route, point);
         if is_hit {
             state.lies[point] = other(in_the_end);
         }
@@ -332,6 +443,10 @@ fn place_under_trains(random: &mut Random, route: &Route, state: &mut State, num
             if !is_hit {
                 state.lies[point] = in_the_end;
             }
+        }
+        if !is_hit && random.chance(held) {
+            state.lies[point] = in_the_end;
+            shared::hold(random, plan, state, point);
         }
     }
 }

@@ -33,6 +33,44 @@ pub fn wild(random: &mut Random) -> Plan {
     }
 }
 
+/// As many tracks, signals, routes and entries as there can be, with more points than lists have room
+/// for, often nothing else. The routes and entries have hardly any lists.
+pub fn full_of_points(random: &mut Random) -> Plan {
+    let count = *plan::TRACKS.end();
+    let rest = random.pick(&[0, 0, 8, 16]).unwrap_or(0);
+    let tracks = (0..count).map(|number| loop {
+        let track = track(random, count);
+        if number < rest || track.is_point() {
+            break track;
+        }
+    });
+    let tracks: Vec<Track> = tracks.collect();
+    let signals = *plan::SIGNALS.end();
+    let routes = (0..*plan::ROUTES.end()).map(|_| Route {
+        start: random.below(signals),
+        path: vec![random.below(count)],
+        clear: vec![],
+        normal: vec![],
+        reverse: vec![],
+        releases: vec![],
+    });
+    let routes = routes.collect();
+    let entry = |track| Entry {
+        track,
+        clear: vec![],
+    };
+    let mut homes: Vec<usize> = (0..count).collect();
+    random.shuffle(&mut homes);
+    homes.truncate(signals);
+    homes.sort_unstable();
+    Plan {
+        tracks,
+        homes,
+        routes,
+        entries: (0..*plan::ENTRIES.end()).map(entry).collect(),
+    }
+}
+
 fn track(random: &mut Random, count: usize) -> Track {
     let mut any = || random.below(count);
     let (first, second, third) = (any(), any(), any());

@@ -58,6 +58,19 @@ impl RouteSet {
     pub fn len(&self) -> usize {
         self.0.count_ones() as usize
     }
+
+    /// The routes of the set, rising.
+    pub fn routes(self) -> impl DoubleEndedIterator<Item = usize> {
+        (0..u64::BITS as usize).filter(move |&route| self.contains(route))
+    }
+
+    pub fn bits(self) -> u64 {
+        self.0
+    }
+
+    pub fn of_bits(bits: u64) -> Self {
+        RouteSet(bits)
+    }
 }
 
 /// A well-formed state of a plan: what the document calls not well formed cannot be built by

@@ -30,7 +30,7 @@ pub fn request(plan: &Plan, state: &mut State, number: usize) -> Answer {
     if let Some(found) = state.first_train_on(&route.clear) {
         return Answer::in_the_way(found);
     }
-    if let Some(point) = lowest_held(state, route) {
+    if let Some(point) = lowest_held_otherwise(state, route) {
         return Answer::Refused(Refusal::PointHeld { point });
     }
     if let Some(point) = lowest_derailed(state, route) {
@@ -40,18 +40,28 @@ pub fn request(plan: &Plan, state: &mut State, number: usize) -> Answer {
     Answer::Granted { route: number }
 }
 
-/// The lowest listed point held by any route, the asking one included.
-pub fn lowest_held(state: &State, route: &Route) -> Option<usize> {
-    let held = |point: &usize| !state.holds[*point].is_empty();
+/// The lowest listed point that is held by any route, the asking one included, and that the grant
+/// would leave lying another way. One that lies right is not in the way, whoever holds it.
+pub fn lowest_held_otherwise(state: &State, route: &Route) -> Option<usize> {
+    let held = |point: &usize| is_held(state, *point) && would_turn(state, route, *point);
     route.listed().filter(held).min()
 }
 
 /// The lowest listed point with a train on it that the grant would leave lying another way.
 pub fn lowest_derailed(state: &State, route: &Route) -> Option<usize> {
-    let derailed = |point: &usize| {
-        state.trains[*point].is_some() && lie_in_the_end(route, *point) != state.lies[*point]
-    };
+    let derailed =
+        |point: &usize| state.trains[*point].is_some() && would_turn(state, route, *point);
     route.listed().filter(derailed).min()
+}
+
+/// Whether any route holds the point, or several.
+pub fn is_held(state: &State, point: usize) -> bool {
+    !state.holds[point].is_empty()
+}
+
+/// Whether a grant would leave a listed point lying another way than it lies.
+pub fn would_turn(state: &State, route: &Route, point: usize) -> bool {
+    lie_in_the_end(route, point) != state.lies[point]
 }
 
 /// Reverse points are turned last, so reverse wins where a bad plan lists a point twice.
@@ -63,6 +73,7 @@ pub fn lie_in_the_end(route: &Route, point: usize) -> Lie {
     }
 }
 
+/// The route's holds are added to those that other routes have of the same points.
 pub fn grant(state: &mut State, route: &Route, number: usize) {
     turn_points(state, route);
     for point in route.listed() {
@@ -176,7 +187,8 @@ pub fn open_leg(plan: &Plan, state: &State, track: usize) -> Option<usize> {
     }
 }
 
-/// A train has arrived at `track`: every route that releases points there gives them back.
+/// A train has arrived at `track`: every route that releases points there gives back its own holds of
+/// them, and no other route's.
 pub fn release(plan: &Plan, state: &mut State, track: usize) {
     for (number, route) in plan.routes.iter().enumerate() {
         for release in route

@@ -1,15 +1,19 @@
 //! Boxes with one thing wrong. The comparison must catch every one of them.
 
+mod beside;
 mod calls;
 mod events;
+mod given;
 mod impostors;
 mod loaders;
+mod many;
 mod moves;
 mod pieces;
 pub mod programs;
 mod reading;
 mod requests;
 mod rules;
+mod shared;
 mod states;
 mod trains;
 mod unasked;
@@ -32,7 +36,7 @@ use programs::InProcess;
 pub const MOST_CASES: usize = 20_000;
 
 /// How many there must be at least, so that none is lost unseen. They may only grow.
-const LEAST_BOXES: usize = 618;
+const LEAST_BOXES: usize = 760;
 const LEAST_PROGRAMS: usize = 50;
 
 /// A wrong function in place of a right one.
@@ -63,6 +67,8 @@ pub enum Shows {
     InSessions,
     /// In single steps from arbitrary states, and in no session from the fresh one.
     InSteps,
+    /// In cases from seeds: of more holds than any session has.
+    InCases,
     /// In calls that are no matter of the document.
     InCalls,
 }
@@ -120,13 +126,41 @@ pub fn all() -> Vec<Mutant> {
     let slips = groups.concat().into_iter();
     let printed = trains::PRINTED.concat().into_iter();
     let slips = slips.map(mutant).chain(wrong_walks());
-    let slips = slips.chain(wrong_trains());
-    slips.chain(printed.map(mutant)).collect()
+    let slips = slips.chain(wrong_trains()).chain(wrong_holds());
+    let slips = slips.chain(printed.map(mutant));
+    slips.chain(wrong_for_many()).collect()
+}
+
+/// Those of them that go wrong where there are very many holds.
+pub fn wrong_for_many() -> Vec<Mutant> {
+    let slips = [many::REQUESTS, many::GIVEN_BACK].concat().into_iter();
+    let in_cases = slips.map(|slip| Mutant {
+        shows: Shows::InCases,
+        ..mutant(slip)
+    });
+    let in_sessions = many::POINTS_GIVEN_BACK.iter().copied().map(mutant);
+    in_cases.chain(in_sessions).collect()
 }
 
 /// Those of them whose 13 names the wrong train.
 pub fn wrong_trains() -> Vec<Mutant> {
     trains::STEPS.concat().into_iter().map(mutant).collect()
+}
+
+/// Those of them that take a point that is held, or its holders, for something else.
+pub fn wrong_holds() -> Vec<Mutant> {
+    let groups = [
+        shared::REASONS,
+        shared::HOLDERS,
+        shared::POINTS,
+        given::TAKEN,
+        given::GIVEN_BACK,
+        given::CANCELLED,
+        beside::GRANTS,
+        beside::MOVES,
+        beside::STATES,
+    ];
+    groups.concat().into_iter().map(mutant).collect()
 }
 
 /// Those of them that walk a list wrongly.

@@ -4,7 +4,9 @@ use super::{Slip, Wrong};
 use crate::model::answer::{Accident, Answer, Refusal};
 use crate::model::plan::{Lie, Plan, Route};
 use crate::model::state::State;
-use crate::model::step::{grant, lowest_derailed, lowest_held, step, turn_points};
+use crate::model::step::{
+    grant, is_held, lowest_derailed, lowest_held_otherwise, step, turn_points, would_turn,
+};
 
 /// One test of a request: what it answers, if it applies.
 type Test = fn(&State, &Route, usize) -> Option<Answer>;
@@ -151,7 +153,7 @@ fn point_held(point: usize) -> Answer {
 }
 
 fn held(state: &State, route: &Route, _: usize) -> Option<Answer> {
-    lowest_held(state, route).map(point_held)
+    lowest_held_otherwise(state, route).map(point_held)
 }
 
 fn held_by_others(state: &State, route: &Route, number: usize) -> Option<Answer> {
@@ -160,20 +162,20 @@ fn held_by_others(state: &State, route: &Route, number: usize) -> Option<Answer>
         .holds
         .iter_mut()
         .for_each(|routes| routes.remove(number));
-    lowest_held(&others, route).map(point_held)
+    lowest_held_otherwise(&others, route).map(point_held)
 }
 
 fn first_held(state: &State, route: &Route, _: usize) -> Option<Answer> {
-    route
-        .listed()
-        .find(|&point| !state.holds[point].is_empty())
+    let mut listed = route.listed();
+    listed
+        .find(|&point| is_held(state, point) && would_turn(state, route, point))
         .map(point_held)
 }
 
 fn normal_held(state: &State, route: &Route, _: usize) -> Option<Answer> {
     let mut points = route.normal.iter().copied();
     points
-        .find(|&point| !state.holds[point].is_empty())
+        .find(|&point| is_held(state, point) && would_turn(state, route, point))
         .map(point_held)
 }
 

@@ -9,7 +9,7 @@ use crate::model::plan::{self, Plan};
 use crate::model::reading::Form;
 use crate::model::rules;
 use crate::model::state::State;
-use crate::model::step::{lowest_held, step};
+use crate::model::step::{lowest_held_otherwise, step};
 use crate::subject::Lent;
 
 /// What a box has before it when it says 13.
@@ -295,7 +295,7 @@ const OWN: &[Slip] = &[
     (
         "13 for a request names no train where 14 applies too",
         names!(1, |way| {
-            let is_held = lowest_held(way.state, way.route()).is_some();
+            let is_held = lowest_held_otherwise(way.state, way.route()).is_some();
             way.unless(is_held)
         }),
     ),

@@ -6,7 +6,7 @@ use super::{Slip, Wrong};
 use crate::model::answer::{Accident, Answer, Refusal};
 use crate::model::plan::{Entry, Lie, Plan, Route};
 use crate::model::state::State;
-use crate::model::step::{grant, lie_in_the_end, step};
+use crate::model::step::{grant, is_held, lie_in_the_end, step, would_turn};
 
 /// What a walk is given: the list, what it looks for, and how many tracks the plan has.
 struct Way<'a> {
@@ -292,9 +292,9 @@ fn refused(state: &State, route: &Route, tracks: usize, walks: &Walks) -> Option
     if let Some(track) = with_train(state, (walks.list)(route), tracks, walks.clear) {
         return Some(in_the_way(state, track));
     }
-    let is_held = |point: usize| !state.holds[point].is_empty();
+    let held_otherwise = |point: usize| is_held(state, point) && would_turn(state, route, point);
     let both = [walks.held_normal, walks.held_reverse];
-    if let Some(point) = on_points(route, tracks, &is_held, both, walks.held) {
+    if let Some(point) = on_points(route, tracks, &held_otherwise, both, walks.held) {
         return Some(Answer::Refused(Refusal::PointHeld { point }));
     }
     let would_turn = |point: usize| {

@@ -181,7 +181,7 @@ fn reason(line: &str) -> Option<String> {
             "train {item} stands on track {} of the clear list",
             words.get(3)?
         ),
-        "14" => format!("point {item} is held"),
+        "14" => format!("point {item} is held and would turn"),
         "15" => "the start signal is not green for this route".to_string(),
         "16" => format!("the home, track {item}, has a train"),
         "17" => "the train is already in the plan".to_string(),
@@ -219,7 +219,7 @@ fn changes(before: &State, after: &State) -> String {
     words.join("; ")
 }
 
-/// What has been done to a point: turned, and held or given back.
+/// What has been done to a point: turned, and held or given back, beside other routes where there are.
 fn done_to(point: usize, before: &State, after: &State) -> String {
     let mut words = Vec::new();
     if before.lies[point] != after.lies[point] {
@@ -229,12 +229,25 @@ fn done_to(point: usize, before: &State, after: &State) -> String {
         });
     }
     let (old, new) = (before.holds[point], after.holds[point]);
-    for route in 0..u64::BITS as usize {
+    let routes = || 0..u64::BITS as usize;
+    let mut is_given_back = false;
+    for route in routes() {
         match (old.contains(route), new.contains(route)) {
-            (false, true) => words.push(format!("held by route {route}")),
-            (true, false) => words.push(format!("given back by route {route}")),
+            (false, true) if old.is_empty() => words.push(format!("held by route {route}")),
+            (false, true) => words.push(format!("held by route {route} too")),
+            (true, false) => {
+                words.push(format!("given back by route {route}"));
+                is_given_back = true;
+            }
             _ => {}
         }
+    }
+    let left: Vec<u8> = routes()
+        .filter(|&route| new.contains(route))
+        .map(|route| route as u8)
+        .collect();
+    if is_given_back && !left.is_empty() {
+        words.push(format!("still held by {}", listed("route", &left)));
     }
     words.join(", ")
 }

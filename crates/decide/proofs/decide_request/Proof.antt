@@ -50,7 +50,7 @@ module _ (s : tie.Start) where
   Busy met = busyTrain (length (plan .tracks)) (route .clear) (state .trains) ≡ met
 
   abbrev Held : Found → Type 0
-  Held found = heldPoint (length (plan .tracks)) (route .normal) (route .reverse) (state .holds) ≡ found
+  Held found = heldPoint (length (plan .tracks)) (route .normal) (route .reverse) (state .lies) (state .holds) ≡ found
 
   abbrev Derailed : Found → Type 0
   Derailed found = derailedPoint (length (plan .tracks)) (route .normal) (route .reverse) (state .trains) (state .lies) ≡ found

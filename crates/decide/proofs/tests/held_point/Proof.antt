@@ -8,7 +8,7 @@ use Rattle.decide.proofs.tests.held_point.Tie as tie
 returns : tie.Need-returns
 returns c =
     let s = c .before .before .before .before .before in
-    c .lower .ensures ∙ lower-both (c .before .before .held-in .ensures) (c .before .held-in2 .ensures) ∙ sym (held-first _ _ _ (s .pre .1) (s .pre .2) _)
+    c .lower .ensures ∙ lower-both (c .before .before .held-in .ensures) (c .before .held-in2 .ensures) ∙ sym (held-first _ _ _ (s .pre .1) (s .pre .2) _ _)
 
 held-in-requires : tie.Need-held-in-requires
 held-in-requires c κs =

@@ -1,7 +1,7 @@
 -- `tests::is_held`: the set of holders tells.
 use mathlib.Core.Path.{ap}
 use mathlib.Core.Bool.{not}
-use Rattle.decide.specs.Along.{held}
+use Rattle.events.specs.Decide.{isHeld}
 use borrow.Author.Needs.{needs}
 use Rattle.decide.proofs.tests.is_held.Statement.{statement}
 use Rattle.decide.proofs.tests.is_held.Tie as tie
@@ -16,7 +16,7 @@ is-empty-requires : tie.Need-is-empty-requires
 is-empty-requires c κs = search needs
 
 returns : tie.Need-returns
-unfolding held
+unfolding isHeld
 returns c = ap not (c .is-empty .ensures)
 
 pub is-held-spec : {M : Type 1} → statement M
