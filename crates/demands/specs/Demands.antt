@@ -13,11 +13,11 @@
 --   rules/specs/Sentences.antt   the twelve plan rules, each as its sentence of a row
 --   rules/specs/Verdict.antt     rules, their list; Sound, each sentence is true of every row; Breaks, the lowest broken rule and row; ruleNumber and ruleRow, the
 --                                document's numbers of a Verdict (rules/src/lib.rt)
---   state/specs/State.antt       State (state/src/lib.rt) and its views trainAt, HasTrain, lieAt, Holds; fresh; WellFormed
+--   state/specs/State.antt       State (state/src/lib.rt) and its views trainAt, HasTrain, lieAt, normalLie, reverseLie, Holds; fresh; WellFormed
 --   events/src/lib.rt            Event, Answer, Refusal, Met, Harm, Deed; events/specs/Events.antt: eventsOf, the events of any bytes
 --   events/specs/Answers.antt    comesOn, arrivesOn, leavesFrom: where an answer, if it is a deed (ifDone), brings a train or takes one away
---   events/specs/Meaning.antt    Given, the table of answers; Follows, what a state shows after an answer; SameTrains and so on; Alike; clearFor and Meets, what
---                                is met on the clear list of an event
+--   events/specs/Meaning.antt    Given, the table of answers, and of its sentences Busy, OtherLie, SignalRed, InPlan; Follows, what a state shows after an
+--                                answer, and AfterGrant after a grant; SameTrains and so on; Alike; clearFor and Meets, what is met on the clear list of an event
 --   laws/specs/Answers.antt      Table, the rows of a table of answers, and Gives, the answer that it gives; None, LowestSuch
 --   laws/specs/Lists.antt        All: each element of a list is so; In: a number stands in a list; laws/src/lib.rt: Found; laws/specs/Sets.antt: member, the bits
 --                                of a number (a route holds a point); laws/specs/Tests.antt: Is, a test is passed
