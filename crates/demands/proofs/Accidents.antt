@@ -9,7 +9,7 @@ use Rattle.laws.specs.Answers.{None}
 use Rattle.plan.specs.Kinds.{leg, Exit}
 use Rattle.plan.specs.Records.{Plan, homeOf, trackOf}
 use Rattle.plan.specs.Layout.{Home}
-use Rattle.plan.specs.Routes.{Listed, pathLength, trackAt}
+use Rattle.plan.specs.Routes.{pathLength, trackAt}
 use Rattle.plan.specs.File.{Readable}
 use Rattle.rules.specs.Verdict.{Sound}
 use Rattle.rules.proofs.Numbered.{twelve}
@@ -18,16 +18,13 @@ use Rattle.state.specs.State.{trainAt, lieAt, shownAt, HasTrain, WellFormed}
 use Rattle.events.specs.declared.Harm.{Harm}
 use Rattle.events.specs.declared.Harm.the-variants.{Collision, RunThrough, Derailment}
 use Rattle.events.specs.declared.Answer.the-variants.{Accident}
-use Rattle.events.specs.Meaning.{OtherLie, RedAt, RunsThrough}
+use Rattle.events.specs.Meaning.{RedAt, RunsThrough}
 use Rattle.events.proofs.Told.{Step, Told}
+use Rattle.events.proofs.Reflect.{other-listed}
 use Rattle.events.proofs.Follow.{not-red}
 use Rattle.demands.proofs.Cases.{home?, same-lie, leg-lie}
 use Rattle.demands.proofs.Facts.{at-home, path-some, listed-clear}
 use Rattle.demands.proofs.Invariant.{Mobile, Place, Way, Invariant, leg-ahead, goes-on}
-
-other-listed : (p : Plan) (σ : State) (r x : ℕ) → OtherLie p σ r x → Listed p r x
-other-listed p σ r x (inl w) = inr (w .0)
-other-listed p σ r x (inr w) = inl (w .1)
 
 module _ (p : Plan) (reads : Readable p) (sound : Sound p) (σ : State) (inv : Invariant p σ) (formed : WellFormed p σ) where
   -- the train may go on: its signal is green for a route, or it is on its way and not at the end

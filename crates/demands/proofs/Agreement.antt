@@ -1,6 +1,6 @@
 -- What follows from demand 2 for any box: 13 and 14 name what their tests met, and a grant turns no point that is held; and agreement, since each row of a request's table comes out alike in two states that agree on what it looks at.
 use mathlib.Core.Path.{_≡_, refl, sym, ap, _∙_, subst}
-use mathlib.Core.Logic.{inl, inr, _↔_}
+use mathlib.Core.Logic.{_↔_}
 use Prim.Native.Nat.{ℕ}
 use Rattle.laws.specs.Answers.{LowestSuch}
 use Rattle.laws.specs.Rows.{Within, last-alike, needs-alike, names-alike}
@@ -20,6 +20,7 @@ use Rattle.events.specs.After.{afterDeed}
 use Rattle.events.specs.Meaning.{Busy, OtherLie, HeldOther, Derails, SignalRed, requestTable, eventTable, tableOf, Given, AfterGrant, Follows, Alike}
 use Rattle.events.proofs.Told.{Told}
 use Rattle.events.proofs.Given.{answers, one-given, told}
+use Rattle.events.proofs.Reflect.{other-listed, other-same}
 use Rattle.events.proofs.Views.{after-grant}
 use Rattle.events.proofs.Follow.{grant-turns, grant-still}
 use Rattle.events.proofs.Named.{answer-named, request-met, enter-met, answer-held, held-formed, request-said}
@@ -44,8 +45,7 @@ module _ (p : Plan) (r : ℕ) where
     busy-alike u (w, t) = (w, λ z. t (k .clear u w ∙ z))
 
     other-alike : (x : ℕ) → OtherLie p σ r x → Listed p r x × OtherLie p τ r x
-    other-alike x (inl (w, d)) = (inr w, inl (w, λ z. d (k .lies x (inr w) ∙ z)))
-    other-alike x (inr (n, w, d)) = (inl w, inr (n, w, λ z. d (k .lies x (inl w) ∙ z)))
+    other-alike x o = let l = other-listed p σ r x o in (l, other-same p σ τ r x (sym (k .lies x l)) o)
 
     held-alike : (x : ℕ) → HeldOther p σ r x → HeldOther p τ r x
     held-alike x ((q, h), o) = let (l, same) = other-alike x o in ((q, sym (k .holds q x l) ∙ h), same)

@@ -15,6 +15,7 @@ use Rattle.events.specs.declared.Answer.the-variants.{Refused, Accident, Done}
 use Rattle.events.specs.Meaning.{OtherLie, AfterGrant, FollowsDeed, Follows}
 use Rattle.events.proofs.Told.{Told}
 use Rattle.events.proofs.Given.{told}
+use Rattle.events.proofs.Reflect.{other-same}
 use Rattle.events.proofs.Kept.{no-hold}
 use Rattle.events.proofs.Follow.{grant-holds, grant-keeps, grant-still, cancel-holds, move-holds}
 use Rattle.demands.specs.Demands.{Box, Demand2, KeepsOwn, Settled}
@@ -25,11 +26,6 @@ module _ (p : Plan) where
   record Rests (σ : State) : Type 0 where
     rests : (r q : ℕ) → Holds σ r q → OtherLie p σ r q → ⊥
 
-  -- what would be turned goes by the point's lie alone
-  other-same : (σ τ : State) (r q : ℕ) → lieAt τ q ≡ lieAt σ q → OtherLie p τ r q → OtherLie p σ r q
-  other-same σ τ r q e (inl (w, d)) = inl (w, λ z. d (e ∙ z))
-  other-same σ τ r q e (inr (n, w, d)) = inr (n, w, λ z. d (e ∙ z))
-
   -- a grant leaves its points as it would leave them
   granted-rests : {σ τ : State} {r : ℕ} → AfterGrant p σ τ r → (q : ℕ) → OtherLie p τ r q → ⊥
   granted-rests g q (inl (w, d)) = d (g .reverse q w)
@@ -37,7 +33,7 @@ module _ (p : Plan) where
 
   -- where no point is turned and no hold is taken
   fewer : (σ τ : State) → Rests σ → ((q : ℕ) → lieAt τ q ≡ lieAt σ q) → ((r q : ℕ) → Holds τ r q → Holds σ r q) → Rests τ
-  fewer σ τ k lies holds = record { rests = λ r q h o. k .rests r q (holds r q h) (other-same σ τ r q (lies q) o) }
+  fewer σ τ k lies holds = record { rests = λ r q h o. k .rests r q (holds r q h) (other-same p τ σ r q (sym (lies q)) o) }
 
   rests-after : (σ τ : State) → Rests σ → (a : Answer) → Told p σ a → Follows p σ τ a → Rests τ
   rests-after σ τ k (Refused refusal) t f = rw f k
@@ -47,7 +43,7 @@ module _ (p : Plan) where
       go : (r q : ℕ) → Holds τ r q → OtherLie p τ r q → ⊥
       go r q h o = elim (grant-holds f r q h) [
         | inl (e, l) ↦ granted-rests f q (rw e at o)
-        | inr (d, held) ↦ k .rests r q held (other-same σ τ r q (grant-still f q (λ z. t .idle q ((r, held), z))) o)
+        | inr (d, held) ↦ k .rests r q held (other-same p τ σ r q (sym (grant-still f q (λ z. t .idle q ((r, held), z)))) o)
       ]
   rests-after σ τ k (Done (Cancelled n)) t f = fewer σ τ k (f .lies) (λ r q h. (cancel-holds f r q h) .1)
   rests-after σ τ k (Done (Entered train u)) t f = fewer σ τ k (f .lies) (λ r q h. sym (f .holds r q) ∙ h)

@@ -91,6 +91,16 @@ module _ (p : Plan) (σ : State) where
       go (At u) e = (search-at (busy-tells clear n h) e, refl)
       go Nothing e = search-none (busy-tells clear n h) e
 
+  -- what would be turned is listed
+  pub other-listed : (r q : ℕ) → OtherLie p σ r q → Listed p r q
+  other-listed r q (inl s) = inr (s .0)
+  other-listed r q (inr s) = inl (s .1)
+
+  -- and goes by the point's own lie alone
+  pub other-same : (τ : State) (r q : ℕ) → lieAt τ q ≡ lieAt σ q → OtherLie p σ r q → OtherLie p τ r q
+  other-same τ r q e (inl (w, d)) = inl (w, λ z. d (sym e ∙ z))
+  other-same τ r q e (inr (n, w, d)) = inr (n, w, λ z. d (sym e ∙ z))
+
   module _ (r n : ℕ) (h : (q : ℕ) → Listed p r q → q < n) where
     other-says : (q : ℕ) → lieAfter (routeOf p r .normal) (routeOf p r .reverse) (σ .lies) q ≢ lieAt σ q → OtherLie p σ r q
     unfolding lieAfter lieAt
@@ -107,10 +117,6 @@ module _ (p : Plan) (σ : State) where
     other-hears q (inr s) z =
         s .2 (sym z ∙ cond-f _ _ (fails (has q (routeOf p r .reverse)) (λ e. s .0 (has-in q (routeOf p r .reverse) e))) ∙ cond-t _ _ (in-has q (routeOf p r .normal) (s .1)))
 
-    other-listed : (q : ℕ) → OtherLie p σ r q → Listed p r q
-    other-listed q (inl s) = inr (s .0)
-    other-listed q (inr s) = inl (s .1)
-
     abbrev turned : ℕ → Bool
     turned q = turns (routeOf p r .normal) (routeOf p r .reverse) (σ .lies) q
 
@@ -123,7 +129,7 @@ module _ (p : Plan) (σ : State) where
     held-tells = record {
       says = λ q e. (held-tests σ q .0 (and-l (isHeld (σ .holds) q) (turned q) e), turn-tests q .0 (and-r (isHeld (σ .holds) q) (turned q) e));
       hears = λ q s. and-i _ _ (held-tests σ q .1 (s .0)) (turn-tests q .1 (s .1));
-      inside = λ q s. h q (other-listed q (s .1));
+      inside = λ q s. h q (other-listed r q (s .1));
     }
 
     pub derails-tells : Tells n (derails (routeOf p r .normal) (routeOf p r .reverse) (σ .trains) (σ .lies)) (Derails p σ r)
@@ -131,7 +137,7 @@ module _ (p : Plan) (σ : State) where
     derails-tells = record {
       says = λ q e. (train-tests σ q .0 (and-l (hasTrain (σ .trains) q) (turned q) e), turn-tests q .0 (and-r (hasTrain (σ .trains) q) (turned q) e));
       hears = λ q s. and-i _ _ (train-tests σ q .1 (s .0)) (turn-tests q .1 (s .1));
-      inside = λ q s. h q (other-listed q (s .1));
+      inside = λ q s. h q (other-listed r q (s .1));
     }
 
   -- where a train stands
