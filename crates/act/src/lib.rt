@@ -1,4 +1,6 @@
 // The code that acts on an answer. It goes by the answer alone: a deed goes array by array, as the definition of the state after does.
+#![tactic(auto)]
+
 ghost use Rattle.std.specs.Prelude.{◌≡◌, ◌<◌, length};
 ghost use Rattle.laws.specs.Lists.{All};
 ghost use Rattle.laws.specs.Tables.{tab};

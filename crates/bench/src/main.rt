@@ -1,6 +1,8 @@
 // The program: reads plan.bin in the folder where it is started, then events from standard input until it ends, and prints a line for the plan and
 // one for each event. What it prints is proved in the room below; here bytes are only moved: read, feed, write. What can't be read or written is
 // told on standard error, and no more is played then.
+#![tactic(auto)]
+
 ghost use Rattle.std.specs.Prelude.{◌≤◌, length};
 ghost use Rattle.reading.specs.Reading.{parse};
 ghost use Rattle.lines.specs.Lines.{line_most};

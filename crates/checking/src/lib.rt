@@ -1,4 +1,6 @@
 // Checking a plan: whether it is accepted, and which rule it breaks first.
+#![tactic(auto)]
+
 mod entries;
 mod tracks;
 

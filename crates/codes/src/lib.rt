@@ -1,4 +1,6 @@
 // Each outcome as one number of 64 bits, by the definitions of specs/Codes.antt.
+#![tactic(auto)]
+
 ghost use Rattle.std.specs.Prelude.{◌≡◌, ◌+◌, ◌*◌, ◌%◌, ◌<◌, [], ◌∷◌};
 ghost use Rattle.events.specs.declared.Answer.TheVariants.{Refused, Accident, Done};
 ghost use Rattle.writing.specs.Writing.{unwritten_number};

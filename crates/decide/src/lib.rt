@@ -1,4 +1,6 @@
 // The code that decides: the answer to an event, by the tests of document 01 in its order. All is lent by `&`, so that deciding can't write.
+#![tactic(auto)]
+
 mod tests;
 
 ghost use Rattle.std.specs.Prelude.{◌≡◌, List, ℕ, ◌<◌};

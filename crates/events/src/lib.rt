@@ -1,4 +1,6 @@
 // What an event is and what an answer is. The definitions that decide and that say the state after stand in specs/.
+#![tactic(auto)]
+
 pub mod unfinished;
 
 ghost use Rattle.std.specs.Prelude.{◌≡◌, length, drop};
@@ -7,7 +9,7 @@ ghost use Rattle.events.specs.Events.{event_of, first_event, events_of};
 use lists::wide;
 
 // The four events, and what is none: an unknown kind, an unused byte that is not 0, or an incomplete last event.
-#[derive(Drop)]
+#[derive(Clone, Copy)]
 pub enum Event {
     Request(usize),
     Cancel(usize),
@@ -17,7 +19,7 @@ pub enum Event {
 }
 
 // Why an event is refused: one case for each number of the document's table, with what the document names; 13 names a track and the train on it.
-#[derive(Drop)]
+#[derive(Clone, Copy)]
 pub enum Refusal {
     IllFormed,
     BadEvent,
@@ -32,14 +34,14 @@ pub enum Refusal {
 }
 
 // What the test of a clear list meets: a track and the train on it, or nobody.
-#[derive(Drop)]
+#[derive(Clone, Copy)]
 pub enum Met {
     Train(usize, u8),
     Nobody,
 }
 
 // What goes wrong on a bad plan.
-#[derive(Drop)]
+#[derive(Clone, Copy)]
 pub enum Harm {
     Collision(usize),
     RunThrough(usize),
@@ -47,7 +49,7 @@ pub enum Harm {
 }
 
 // What an event does to the state.
-#[derive(Drop)]
+#[derive(Clone, Copy)]
 pub enum Deed {
     Granted(usize),
     Cancelled(usize),
@@ -57,7 +59,7 @@ pub enum Deed {
 }
 
 // What comes of an event. Only a deed changes the state.
-#[derive(Drop)]
+#[derive(Clone, Copy)]
 pub enum Answer {
     Refused(Refusal),
     Accident(Harm),

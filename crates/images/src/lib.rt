@@ -1,5 +1,7 @@
 // Deciding whether a plan in memory is one that some file reads as: each function looks and writes nothing. An image is read like a file in which
 // every list stands at its full length, and what is past its count must be 0.
+#![tactic(auto)]
+
 ghost use Rattle.std.specs.Prelude.{◌≡◌, ◌-◌, length};
 ghost use Rattle.plan.specs.Limits.{tracks_at, routes_at, entries_at};
 ghost use Rattle.plan.specs.Image.{plan_of};

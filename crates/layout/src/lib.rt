@@ -1,4 +1,6 @@
 // How the tracks of a plan in memory lie, by the definitions of the plan's Layout.
+#![tactic(auto)]
+
 ghost use Rattle.std.specs.Prelude.{◌≡◌};
 ghost use Rattle.plan.specs.Records.{home_of, track_of};
 ghost use Rattle.plan.specs.Kinds.{plain, exit, forks, legged, out, leg};

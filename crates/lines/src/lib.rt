@@ -1,4 +1,6 @@
 // An answer, a verdict or a form as the line that is printed, written into lent memory.
+#![tactic(auto)]
+
 ghost use Rattle.std.specs.Prelude.{◌≡◌, ◌+◌, ◌≤◌, length};
 ghost use Rattle.events.specs.declared.Deed.TheVariants.{Entered, Moved, Left};
 ghost use Rattle.events.specs.declared.Answer.TheVariants.{Refused, Accident, Done};

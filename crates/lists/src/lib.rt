@@ -1,4 +1,6 @@
 // What walks a list of numbers, whatever the list is of.
+#![tactic(auto)]
+
 ghost use Rattle.std.specs.Prelude.{◌≡◌, cond, not, ◌+◌, ◌≤◌, ltb, length};
 ghost use Rattle.laws.specs.Lists.{all_of, has, different, empty_from};
 ghost use Rattle.laws.specs.Written.{Wrote};

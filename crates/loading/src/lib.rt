@@ -1,4 +1,6 @@
 // Loading a plan file into the plan's image, with the answers 1 to 5.
+#![tactic(auto)]
+
 mod store;
 
 ghost use Rattle.std.specs.Prelude.{◌≡◌};

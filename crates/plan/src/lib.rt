@@ -1,11 +1,13 @@
 // The plan file and the plan in memory.
+#![tactic(auto)]
+
 pub mod image;
 pub mod kinds;
 pub mod limits;
 
 // A track: its kind (kinds.rt) and three numbers. A plain track has its next track; a facing point its normal and its reverse way out; a
 // trailing point its next track, its normal and its reverse leg. What is not used is 0.
-#[derive(Drop)]
+#[derive(Clone, Copy)]
 pub struct Track {
     pub kind: u8,
     pub first: u8,
@@ -14,7 +16,7 @@ pub struct Track {
 }
 
 // A train's arrival on the track gives the point back.
-#[derive(Drop)]
+#[derive(Clone, Copy)]
 pub struct Release {
     pub track: u8,
     pub point: u8,

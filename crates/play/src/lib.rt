@@ -1,4 +1,6 @@
 // One event: the answer, and the state after it. Every way to play goes through here.
+#![tactic(auto)]
+
 ghost use Rattle.std.specs.Prelude.{◌≡◌};
 ghost use Rattle.plan.specs.File.{Readable};
 ghost use Rattle.plan.specs.Image.{plan_of};

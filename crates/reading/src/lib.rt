@@ -1,5 +1,7 @@
 // Deciding whether a file is a plan: each function looks and writes nothing. What it answers is what its reader of specs/Reading.antt
 // gives at that offset: the offset of the next byte, or the form of the first bad one.
+#![tactic(auto)]
+
 ghost use Rattle.std.specs.Prelude.{◌≡◌, length};
 ghost use Rattle.plan.specs.Kinds.{is_point, limit_of};
 ghost use Rattle.reading.specs.Reading.{below, count, entry, entry_section, number, path_list, point_list, release, release_list, rising_list, route, route_section, scanned, track, track_section};
@@ -13,7 +15,7 @@ use plan::limits::{
 };
 
 // Why a file is no plan: one case for each number of the document's table, with the offset.
-#[derive(Drop)]
+#[derive(Clone, Copy)]
 pub enum Form {
     EndsEarly(usize),
     BadCount(usize),
@@ -23,7 +25,7 @@ pub enum Form {
 }
 
 // How far reading came: to the offset of the next byte, or to a form.
-#[derive(Drop)]
+#[derive(Clone, Copy)]
 pub enum Seen {
     Next(usize),
     Refused(Form),

@@ -1,4 +1,6 @@
 // Rules 6 to 11, whose rows are routes.
+#![tactic(auto)]
+
 ghost use Rattle.std.specs.Prelude.{◌≡◌, ◌-◌, ◌<◌};
 ghost use Rattle.laws.specs.Lists.{all_of, different};
 ghost use Rattle.laws.specs.Search.{all_below};

@@ -1,5 +1,7 @@
 // The only public face of the box: reading a plan, into memory too, and writing it back, checking it, the fresh state, one event, many events, events
 // as they come. No function asks anything of its caller: any bytes as a plan or an image, any state and any bytes as events get an answer.
+#![tactic(auto)]
+
 mod said;
 
 ghost use Rattle.std.specs.Prelude.{◌≡◌};
@@ -28,7 +30,7 @@ use writing::write;
 // What comes of a call that does all that it is given or nothing: 0, or the code of why nothing was done; and how many codes or bytes stand in the
 // lent memory.
 #[repr(C)]
-#[derive(Drop)]
+#[derive(Clone, Copy)]
 pub struct Outcome {
     pub code: u64,
     pub written: usize,

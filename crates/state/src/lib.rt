@@ -1,4 +1,6 @@
 // The state: trains, lies, holds and signals.
+#![tactic(auto)]
+
 pub mod cells;
 pub mod form;
 
@@ -19,7 +21,7 @@ pub struct State {
 }
 
 // The routes that hold a point, each a bit.
-#[derive(Drop)]
+#[derive(Clone, Copy)]
 pub struct HoldSet {
     pub routes: u64,
 }

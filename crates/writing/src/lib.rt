@@ -1,4 +1,6 @@
 // Writing a plan in memory as its file, with the answers 7 and 6.
+#![tactic(auto)]
+
 mod sections;
 mod size;
 
@@ -11,14 +13,14 @@ use sections::write_sections;
 use size::file_size;
 
 // Why nothing is written: no file reads as the plan in memory (7), or there is too little room (6).
-#[derive(Drop)]
+#[derive(Clone, Copy)]
 pub enum Unwritten {
     NoFile,
     NoRoom,
 }
 
 // What comes of writing: nothing is written, or the whole file, with its length.
-#[derive(Drop)]
+#[derive(Clone, Copy)]
 pub enum Written {
     Refused(Unwritten),
     Whole(usize),

@@ -1,0 +1,23 @@
+-- `lists::none_in`: what is left of the list passes exactly if the whole list does.
+use Rattle.laws.specs.Walks.{all_passed, all_failed, all_done}
+use Rattle.laws.specs.Lists.{all_of, has}
+use lib.ListN.{length, drop}
+use Prim.Native.Nat.{ℕ, ◌-◌}
+use mathlib.Core.Bool.{Bool, not}
+use mathlib.Core.Path.{◌≡◌, refl, sym, ap, ◌∙◌}
+use borrow.Author.Rules.{rules}
+use Rattle.lists.proofs.none_in.Goals as goal
+
+pub loop-i-init : goal.loop-i-init
+loop-i-init c = refl
+
+pub returns-then-has : goal.returns-then-has
+returns-then-has c = sym (all_failed (λ x. not (has x c.args.other.now)) c.args.list.now _ 0 c.loop-i-test.true
+    (ap (λ (b : Bool). not b) (sym (ap (λ (x : ℕ). has x c.args.other.now) c.wide.ensures) ∙ sym c.has.ensures ∙ c.if-has.true))) ∙ c.loop-i.invariant
+
+pub loop-i-preserved : goal.loop-i-preserved
+loop-i-preserved c = sym (all_passed (λ x. not (has x c.args.other.now)) c.args.list.now _ 0 c.loop-i-test.true
+    (ap (λ (b : Bool). not b) (sym (ap (λ (x : ℕ). has x c.args.other.now) c.wide.ensures) ∙ sym c.has.ensures ∙ c.if-has.false))) ∙ c.loop-i.invariant
+
+pub returns : goal.returns
+returns c = sym (all_done (λ x. not (has x c.args.other.now)) c.args.list.now _ c.loop-i-test.false) ∙ c.loop-i.invariant

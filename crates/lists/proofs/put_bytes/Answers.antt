@@ -1,0 +1,18 @@
+-- `lists::put_bytes`: what is left of the list, written from the place reached, gives the whole list written.
+use Prim.Native.Nat.{◌-◌}
+use native.Mathlib.Omega.{arith}
+use lib.ListN.{length}
+use Rattle.laws.specs.Written.{Writing, writing_start, writing_turn, writing_end}
+use Rattle.lists.proofs.put_bytes.Goals as goal
+
+pub loop-i-init : goal.loop-i-init
+loop-i-init c = writing_start _ _ _
+
+pub loop-i-preserved : goal.loop-i-preserved
+loop-i-preserved c = writing_turn c.loop-i.invariant c.loop-i-test.true
+
+pub shape_of-out : goal.shape_of-out
+shape_of-out c = c.loop-i.invariant.long
+
+pub returns : goal.returns
+returns c = writing_end c.loop-i.invariant c.loop-i-test.false c.requires
