@@ -1,12 +1,8 @@
 -- `lists::all_below`: what is left of the list passes exactly if the whole list does.
-use Prim.Native.Nat.{◌-◌}
 use Rattle.laws.specs.Walks.{all_passed, all_failed, all_done}
-use Rattle.laws.specs.Lists.{all_of}
 use borrow.Author.Tests.{lt-ltb, le-ltb}
 use lib.Dec.{ltb}
-use lib.ListN.{length, drop}
-use mathlib.Core.Path.{◌≡◌, refl, sym, ◌∙◌}
-use borrow.Author.Rules.{rules}
+use mathlib.Core.Path.{refl, sym, ◌∙◌}
 use Rattle.lists.proofs.all_below.Goals as goal
 
 pub loop-i-init : goal.loop-i-init

@@ -1,11 +1,8 @@
 -- `lists::all_in`: what is left of the list passes exactly if the whole list does.
-use Rattle.laws.specs.Walks.{all_passed, all_failed, all_done}
 use Rattle.laws.specs.Lists.{all_of, has}
-use borrow.Author.Tests.{not-true, not-false}
 use lib.ListN.{length, drop}
-use Prim.Native.Nat.{ℕ, ◌-◌}
-use mathlib.Core.Path.{◌≡◌, refl, sym, ap, ◌∙◌}
-use borrow.Author.Rules.{rules}
+use Prim.Native.Nat.{◌-◌}
+use mathlib.Core.Path.{◌≡◌}
 use Rattle.lists.proofs.all_in.Given as goal
 
 abbrev pub invariant-loop-i : goal.invariant-loop-i

@@ -1,10 +1,6 @@
 -- `lists::different`: what is left of the list has no number twice exactly if the whole list has none.
-use Prim.Native.Nat.{◌-◌}
-use lib.ListN.{length, drop}
-use mathlib.Core.Path.{◌≡◌, refl, sym, ◌∙◌}
-use Rattle.laws.specs.Lists.{different}
+use mathlib.Core.Path.{refl, sym, ◌∙◌}
 use Rattle.lists.proofs.Walks.{different_passed, different_failed, different_done}
-use borrow.Author.Rules.{rules}
 use Rattle.lists.proofs.different.Goals as goal
 
 pub loop-i-init : goal.loop-i-init

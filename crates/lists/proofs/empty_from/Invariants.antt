@@ -1,12 +1,10 @@
 -- `lists::empty_from`: what was met so far and what is left from here are empty exactly if all of it is.
 use Prim.Native.Nat.{◌-◌}
-use mathlib.Core.Path.{◌≡◌, refl, sym, ◌∙◌}
+use mathlib.Core.Path.{◌≡◌}
 use mathlib.Core.Bool.{◌&&◌}
 use lib.Dec.{eqb}
 use lib.ListN.{length}
 use Rattle.laws.specs.Lists.{empty_from}
-use Rattle.lists.proofs.Walks.{empty_walked, empty_met}
-use borrow.Author.Rules.{rules}
 use Rattle.lists.proofs.empty_from.Given as goal
 
 abbrev pub invariant-loop-i : goal.invariant-loop-i

@@ -1,9 +1,6 @@
 -- `lists::has`: what is left of the list has the number exactly if the whole list has it.
-use Prim.Native.Nat.{◌-◌}
-use Rattle.laws.specs.Lists.{has, has_hit, has_miss, has_end}
-use lib.ListN.{length, drop}
-use mathlib.Core.Path.{◌≡◌, refl, sym, ◌∙◌}
-use borrow.Author.Rules.{rules}
+use Rattle.laws.specs.Lists.{has_hit, has_miss, has_end}
+use mathlib.Core.Path.{refl, sym, ◌∙◌}
 use Rattle.lists.proofs.has.Goals as goal
 
 pub loop-i-init : goal.loop-i-init

@@ -1,9 +1,8 @@
 -- `lists::has`: what is left of the list has the number exactly if the whole list has it.
 use Prim.Native.Nat.{◌-◌}
-use Rattle.laws.specs.Lists.{has, has_hit, has_miss, has_end}
+use Rattle.laws.specs.Lists.{has}
 use lib.ListN.{length, drop}
-use mathlib.Core.Path.{◌≡◌, refl, sym, ◌∙◌}
-use borrow.Author.Rules.{rules}
+use mathlib.Core.Path.{◌≡◌}
 use Rattle.lists.proofs.has.Given as goal
 
 abbrev pub invariant-loop-i : goal.invariant-loop-i

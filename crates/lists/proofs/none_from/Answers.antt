@@ -1,10 +1,6 @@
 -- `lists::none_from`: as `empty_from`, of the holds.
-use Prim.Native.Nat.{◌-◌}
-use mathlib.Core.Path.{◌≡◌, refl, sym, ◌∙◌}
-use lib.ListN.{length}
-use Rattle.laws.specs.Lists.{empty_from}
+use mathlib.Core.Path.{refl, sym, ◌∙◌}
 use Rattle.lists.proofs.Walks.{empty_fails, empty_passes, empty_end}
-use borrow.Author.Rules.{rules}
 use Rattle.lists.proofs.none_from.Goals as goal
 
 pub loop-i-init : goal.loop-i-init

@@ -1,10 +1,8 @@
 -- `lists::none_from`: as `empty_from`, of the holds.
 use Prim.Native.Nat.{◌-◌}
-use mathlib.Core.Path.{◌≡◌, refl, sym, ◌∙◌}
+use mathlib.Core.Path.{◌≡◌}
 use lib.ListN.{length}
 use Rattle.laws.specs.Lists.{empty_from}
-use Rattle.lists.proofs.Walks.{empty_fails, empty_passes, empty_end}
-use borrow.Author.Rules.{rules}
 use Rattle.lists.proofs.none_from.Given as goal
 
 abbrev pub invariant-loop-i : goal.invariant-loop-i

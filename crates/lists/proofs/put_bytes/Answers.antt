@@ -1,8 +1,5 @@
 -- `lists::put_bytes`: what is left of the list, written from the place reached, gives the whole list written.
-use Prim.Native.Nat.{◌-◌}
-use native.Mathlib.Omega.{arith}
-use lib.ListN.{length}
-use Rattle.laws.specs.Written.{Writing, writing_start, writing_turn, writing_end}
+use Rattle.laws.specs.Written.{writing_start, writing_turn, writing_end}
 use Rattle.lists.proofs.put_bytes.Goals as goal
 
 pub loop-i-init : goal.loop-i-init

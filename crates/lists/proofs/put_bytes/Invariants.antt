@@ -1,8 +1,7 @@
 -- `lists::put_bytes`: what is left of the list, written from the place reached, gives the whole list written.
 use Prim.Native.Nat.{◌-◌}
-use native.Mathlib.Omega.{arith}
 use lib.ListN.{length}
-use Rattle.laws.specs.Written.{Writing, writing_start, writing_turn, writing_end}
+use Rattle.laws.specs.Written.{Writing}
 use Rattle.lists.proofs.put_bytes.Given as goal
 
 abbrev pub invariant-loop-i : goal.invariant-loop-i
