@@ -1,0 +1,14 @@
+-- `reading::point_list`: what is left of the list from here answers what the whole list does.
+use mathlib.Core.Path.{◌≡◌}
+use Rattle.plan.specs.Kinds.{is_point}
+use Rattle.plan.specs.Image.{plan_of}
+use Rattle.reading.specs.Reading.{above, number, many, point_list, scanned}
+use Rattle.reading.proofs.point_list.Given as goal
+
+abbrev pub invariant-loop-left : goal.invariant-loop-left
+invariant-loop-left l =
+    scanned (many (number (is_point (plan_of l.image).tracks)) above l.left l.least) l.file l.at
+    ≡ scanned (point_list (plan_of l.image).tracks) l.file l.from
+
+abbrev pub decreases-loop-left : goal.decreases-loop-left
+decreases-loop-left l = l.left
