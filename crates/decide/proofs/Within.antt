@@ -13,7 +13,7 @@ use Rattle.plan.specs.Records.{Plan, home_of, track_of}
 use Rattle.plan.specs.Layout.{signal_at}
 use Rattle.plan.specs.File.{Readable}
 use Rattle.plan.proofs.Says.{exit_is}
-use Rattle.events.specs.Decide.{is_reverse, way_out}
+use Rattle.events.specs.Decide.{is_reverse, stands, front_of, way_out}
 use Rattle.events.proofs.Facts.{out_below}
 
 pub signal_within : (p : Plan) (u : ℕ) {s : ℕ} → signal_at p u ≡ At s → s < length p.signals
@@ -23,3 +23,7 @@ signal_within p u e = (lowest_at (length p.signals) (λ s. eqb (home_of p s) u) 
 pub next_within : {p : Plan} → Readable p → {u : ℕ} → u < length p.tracks → exit (track_of p u) ≡ false → (lies : List ℕ) → way_out p lies u < length p.tracks
 unfolding way_out
 next_within {p} w {u} h x lies = out_below p w u (is_reverse lies u) h (λ e. clash ((exit_is (track_of p u)).1 e) x)
+
+pub front_within : (p : Plan) (trains : List ℕ) (train : ℕ) {u : ℕ} → front_of p trains train ≡ At u → u < length p.tracks
+unfolding front_of
+front_within p trains train e = (lowest_at (length p.tracks) (stands trains train) e).below

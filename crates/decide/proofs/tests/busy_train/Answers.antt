@@ -1,0 +1,10 @@
+-- `tests::busy_train`: the first of a list that rises is the lowest.
+use mathlib.Core.Path.{sym, ◌∙◌}
+use Rattle.decide.proofs.Along.{within, busy_first}
+use Rattle.decide.proofs.tests.busy_train.Goals as goal
+
+pub returns : goal.returns
+returns c = c.busy_in.ensures ∙ sym (busy_first _ _ _ c.requires.1)
+
+pub busy_in-requires : goal.busy_in-requires
+busy_in-requires c = within _ c.requires.0 c.requires.1
