@@ -1,6 +1,6 @@
 -- A part of an image in the steps that the code takes: what a reader saw, and the zeros after it, are what the part's own reader answers, and where it
 -- is passed the next part stands where it must. Assumes nothing.
-use mathlib.Core.Path.{◌≡◌, refl, sym, ap, ◌∙◌}
+use mathlib.Core.Path.{◌≡◌, refl, ◌∙◌}
 use mathlib.Core.List.{List}
 use Prim.Native.Nat.{ℕ, ◌+◌, ◌*◌, ◌-◌, ◌≤◌, ◌<◌}
 use native.Mathlib.Omega.{arith}
@@ -19,7 +19,6 @@ use Rattle.reading.specs.Reading.{Reader, got, below, free, after_entry, scanned
 use Rattle.reading.proofs.Sound.{Sound, sound_got, sound_next}
 use Rattle.reading.proofs.Scanned.{Steady, passed, then_stop, then_step, then_last, then_steady, many_steady, number_steady, done_steady}
 use Rattle.reading.proofs.Scanned.{path_steady, rising_steady, points_steady, releases_steady, counted_steady, listed_above}
-use Rattle.reading.proofs.Chains.{Left}
 use Rattle.images.specs.Images.{zeros, roomy, list_room, route_room, route_rooms, entry_room, entry_rooms, zeros_to}
 use Rattle.images.proofs.Roomy.{roomy_sound}
 
@@ -54,17 +53,6 @@ routes_fit tracks signals l ok =
     let shows = all_map (λ r w. route_shows r (route_fits tracks signals r w)) l ok.each in
     let most : route_size * length l ≤ route_size * most_routes = mul-le-mul_left route_size ok.few in
     omega (arith, length_joined route_in route_size route_image l shows)
-
--- What is left from an offset, by another name for it.
-abbrev pub placed : {B : Type 0} (left : Left B) {to : ℕ} → left.at ≡ to → Left B
-placed left {to} e = record {
-  Read = left.Read;
-  rest = left.rest;
-  file = left.file;
-  at = to;
-  answer = left.answer;
-  same = λ x go. left.same x (λ v. go v ∙ ap (λ (k : ℕ). scanned (left.rest v) left.file k) (sym e));
-}
 
 -- The records, and all of them, are steady; an entry that was passed has its track in its first byte, and the next one is above it.
 
