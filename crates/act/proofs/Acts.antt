@@ -1,6 +1,7 @@
 -- What the code comes to, in the words of the state after.
 use mathlib.Core.Path.{◌≡◌, refl, ap, ◌∙◌}
 use mathlib.Core.Bool.{Bool, true, false, cond, ◌&&◌, ◌||◌}
+use mathlib.Core.Logic.{◌⊎◌, inl, inr}
 use mathlib.Core.List.{List, [], ◌∷◌}
 use Prim.Native.Nat.{ℕ, suc, ◌+◌, ◌<◌, ◌≤◌}
 use native.Mathlib.Omega.{arith}
@@ -9,8 +10,6 @@ use lib.ListN.{length, get_or, set}
 use lib.Dec.{eqb, ltb}
 use borrow.Author.Tests.{eq-eqb, ne_eqb, lt-ltb, le-ltb}
 use borrow.Rule.Slice.PartMut.{mid_of, put_mid}
-use types.Run.{OneOf, miss}
-use denote.Enum.Declared.{tag_of}
 use Rattle.laws.specs.Lists.{any_of, has, joined}
 use Rattle.laws.specs.Sets.{excluding}
 use Rattle.laws.specs.Tables.{tab, length-tab, getD-tab, tab-cong, tab-of}
@@ -33,8 +32,6 @@ use Rattle.events.specs.declared.Answer.TheVariants.{Refused, Accident, Done}
 use Rattle.events.specs.Answers.{deed_arrives, deed_leaves}
 use Rattle.events.specs.Decide.{lie_after}
 use Rattle.events.specs.After.{stood, gone, new_trains, new_lies, taken, dropped, dropped_all, arrived, route_holds, given_back, new_holds, shown, reddened, route_signals, red_behind, new_signals, after_deed, after, Acts}
-use Rattle.events.specs.contracts.Answer.{the_type as answers}
-use Rattle.events.specs.contracts.Deed.{the_type as deeds}
 use Rattle.act.specs.Cells.{turned, held, released, freed, Ready}
 use Rattle.act.proofs.Walks.{written, up_to, done_length, done_next, done_set}
 
@@ -97,48 +94,33 @@ module _ (p : Plan) (v : ℕ) (m : List ℕ) where
   unfolding gave_back arrived
   back_all n e = rw e
 
--- What a deed leaves as it was: the arm that does nothing knows the deed by the number of its variant.
+-- What a deed leaves as it was: the arm that does nothing knows which deeds come to it, or which don't.
 
-abbrev keep_trains : List ℕ
-keep_trains = 0 ∷ 1 ∷ []
-
-abbrev keep_lies : List ℕ
-keep_lies = 1 ∷ 2 ∷ 3 ∷ 4 ∷ []
-
-abbrev keep_holds : List ℕ
-keep_holds = 2 ∷ 4 ∷ []
-
-pub trains_kept : (m : List ℕ) (a : Deed) → OneOf keep_trains (tag_of deeds a) → m ≡ new_trains m a
+pub trains_kept : (m : List ℕ) (a : Deed) → ((r : ℕ) × (a ≡ Granted r)) ⊎ ((r : ℕ) × (a ≡ Cancelled r)) → m ≡ new_trains m a
 unfolding new_trains
-trains_kept m (Granted r) k = refl
-trains_kept m (Cancelled r) k = refl
-trains_kept m (Entered train u) k = absurd (miss keep_trains 2 tt k)
-trains_kept m (Moved train u v) k = absurd (miss keep_trains 3 tt k)
-trains_kept m (Left train u) k = absurd (miss keep_trains 4 tt k)
+trains_kept m a (inl (r, e)) = rw e
+trains_kept m a (inr (r, e)) = rw e
 
 module _ (p : Plan) (m : List ℕ) where
-  pub lies_kept : (a : Deed) → OneOf keep_lies (tag_of deeds a) → m ≡ new_lies p m a
+  pub lies_kept : (a : Deed) → ((r : ℕ) → a ≡ Granted r → ⊥) → m ≡ new_lies p m a
   unfolding new_lies
-  lies_kept (Granted r) k = absurd (miss keep_lies 0 tt k)
+  lies_kept (Granted r) k = absurd (k r refl)
   lies_kept (Cancelled r) k = refl
   lies_kept (Entered train u) k = refl
   lies_kept (Moved train u v) k = refl
   lies_kept (Left train u) k = refl
 
-  pub holds_kept : (a : Deed) → OneOf keep_holds (tag_of deeds a) → m ≡ new_holds p m a
+  pub holds_kept : (a : Deed) → ((train : ℕ) × (u : ℕ) × (a ≡ Entered train u)) ⊎ ((train : ℕ) × (u : ℕ) × (a ≡ Left train u)) → m ≡ new_holds p m a
   unfolding new_holds given_back deed_arrives route_holds
-  holds_kept (Granted r) k = absurd (miss keep_holds 0 tt k)
-  holds_kept (Cancelled r) k = absurd (miss keep_holds 1 tt k)
-  holds_kept (Entered train u) k = refl
-  holds_kept (Moved train u v) k = absurd (miss keep_holds 3 tt k)
-  holds_kept (Left train u) k = refl
+  holds_kept a (inl (train, u, e)) = rw e
+  holds_kept a (inr (train, u, e)) = rw e
 
 -- An answer that is no deed changes nothing.
-pub nothing_done : (p : Plan) (a : Answer) (σ : State) → OneOf (0 ∷ 1 ∷ []) (tag_of answers a) → σ ≡ after p σ a
+pub nothing_done : (p : Plan) (a : Answer) (σ : State) → ((deed : Deed) → a ≡ Done deed → ⊥) → σ ≡ after p σ a
 unfolding after
 nothing_done p (Refused refusal) σ k = refl
 nothing_done p (Accident harm) σ k = refl
-nothing_done p (Done deed) σ k = absurd (miss (0 ∷ 1 ∷ []) 2 tt k)
+nothing_done p (Done deed) σ k = absurd (k deed refl)
 
 pub deed_done : (p : Plan) (a : Answer) (σ : State) {deed : Deed} {τ : State} → a ≡ Done deed → τ ≡ after_deed p σ deed → τ ≡ after p σ a
 unfolding after
