@@ -45,7 +45,7 @@ module _ (box : Box) (p : Plan) where
   pub reached_append : (σ : State) (a b : List Event) → reached box p σ (a ++ b) ≡ reached box p (reached box p σ a) b
   unfolding reached
   reached_append σ [] b = refl
-  reached_append σ (e ∷ a) b = reached_append _ a b
+  reached_append σ (e ∷ a) b = reached_append (box.next p σ e) a b
 
   pub history_append : (σ : State) (a b : List Event) → history box p σ (a ++ b) ≡ history box p σ a ++ history box p (reached box p σ a) b
   unfolding history reached

@@ -1,0 +1,8 @@
+-- `codes::pack`: four bytes, the first one lowest.
+use native.Mathlib.Omega.{arith}
+use Rattle.codes.specs.Codes.{packed}
+use Rattle.codes.proofs.pack.Goals as goal
+
+pub returns : goal.returns
+unfolding packed
+returns c = omega arith
