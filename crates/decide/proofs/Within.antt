@@ -1,4 +1,4 @@
--- What a test finds is there: the signal at a track's end, and the track that a train goes to.
+-- What a test finds is there: the signal at a track's end, the track that a train stands on, and the one that it goes to.
 use mathlib.Core.Path.{◌≡◌}
 use mathlib.Core.Bool.{false}
 use mathlib.Core.List.{List}
