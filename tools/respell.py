@@ -17,17 +17,19 @@ import sys
 WORD = re.compile(r'[^\s(){}.;,@"«»\[\]]+')
 QUIET = re.compile(r'"(?:[^"\\\n]|\\.)*"|(?<![^\s(){}.;,@"«»])--[^\n]*')
 OLD = re.compile(r"[a-z].*(?:[a-z0-9₀-₉][A-Z]|[A-Za-z0-9₀-₉]-[A-Za-z0-9])")
-DECLARED = re.compile(r'^\s*(?:(?:pub|abbrev|unfoldable)\s+)*((?:[^\s(){}.;,@":]+\s+)+):\s', re.M)
+DECLARED = re.compile(r'^\s*(?:(?:pub|abbrev|unfoldable)\s+)*((?:[^\s(){}.;,@":]+\s+)+)(?:\{[^{}\n]*\}\s+)*:\s', re.M)
 TELESCOPE = re.compile(r'[({]((?:[^\s(){}.;,@":]+\s+)+):\s')
 USE = re.compile(r"^(?:pub )?use ([^\s{;]+)(?:\{([^}]*)\})?(?: as (\S+))?", re.M)
 PATH = re.compile(r"\bRattle(?:\.[^\s(){}.;,@\"«»]+)+")
 OF_RATTLE = re.compile(r"Rattle\.(?!std\b|core\b|io\b|libc\b|os\b)")
 CLAUSE = re.compile(r"\b(?:requires|ensures)\s*\*?\s*(?:\w+\s*)?\{|\bghost\s+\w+\s*:\s*\{")
 GHOST_USE = re.compile(r"ghost\s+use\b[^;]*;")
+OF_ONE = ("/Proof.antt", "/Answers.antt", "/Invariants.antt")
 SPAN = re.compile(r"`[^`\n]+`")
 
 
 def turned(name):
+    name = name.replace("getD", "get_or")
     return re.sub(r"(?<=[a-z0-9₀-₉])[A-Z]", lambda m: "_" + m[0].lower(), name).replace("-", "_") if OLD.match(name) else name
 
 
@@ -61,7 +63,7 @@ def table(paths):
     """What the repository declares in an old spelling: each name with its new one. Where a definition and a lemma would fall together, the lemma gets `_lem`."""
     names = set()
     for p in paths:
-        if not p.endswith("/Proof.antt"):
+        if not p.endswith(OF_ONE):
             text = bare(read(p))
             for m in list(DECLARED.finditer(text)) + list(TELESCOPE.finditer(text)):
                 names |= set(m[1].split())
@@ -136,7 +138,7 @@ def pages():
 def main():
     antt = list(texts(".antt"))
     rows = table(antt)
-    told = list(clashes([p for p in antt if not p.endswith("/Proof.antt")], rows))
+    told = list(clashes([p for p in antt if not p.endswith(OF_ONE)], rows))
     if told:
         print("\n".join(told))
         return 1

@@ -12,7 +12,7 @@ use borrow.Author.Tests.{eq-eqb, ne_eqb, lt-ltb, le-ltb}
 use borrow.Rule.Slice.PartMut.{mid_of, put_mid}
 use Rattle.laws.specs.Lists.{any_of, has, joined}
 use Rattle.laws.specs.Sets.{excluding}
-use Rattle.laws.specs.Tables.{tab, length-tab, getD-tab, tab-cong, tab-of}
+use Rattle.laws.specs.Tables.{tab, length_tab, get_or_tab, tab_cong, tab_of}
 use Rattle.plan.specs.declared.Release.{Release}
 use Rattle.plan.specs.Limits.{most_tracks, most_signals}
 use Rattle.plan.specs.Records.{Plan, home_of, route_of}
@@ -79,16 +79,16 @@ released_has v q (a ∷ l) = go (eqb a.track v) (released_has v q l)
 module _ (p : Plan) (v : ℕ) (m : List ℕ) where
   pub back_none : length m ≡ most_tracks → m ≡ tab most_tracks (gave_back p v m 0)
   unfolding gave_back dropped_all
-  back_none e = tab-of m most_tracks (gave_back p v m 0) 0 e (λ q h. refl)
+  back_none e = tab_of m most_tracks (gave_back p v m 0) 0 e (λ q h. refl)
 
   pub back_more : (r : ℕ) (h l : List ℕ) → h ≡ tab most_tracks (gave_back p v m r) → l ≡ joined release_file (route_of p r).releases
       → tab (length h) (freed (released v l) r h) ≡ tab most_tracks (gave_back p v m (r + 1))
   unfolding gave_back dropped_all freed releases
-  back_more r h l e w = rw (e, length-tab most_tracks (gave_back p v m r), w) (tab-cong most_tracks _ _ at)
+  back_more r h l e w = rw (e, length_tab most_tracks (gave_back p v m r), w) (tab_cong most_tracks _ _ at)
     where
       at : (q : ℕ) → q < most_tracks
           → freed (released v (joined release_file (route_of p r).releases)) r (tab most_tracks (gave_back p v m r)) q ≡ gave_back p v m (r + 1) q
-      at q k = rw (getD-tab most_tracks (gave_back p v m r) q 0 k, released_has v q (route_of p r).releases, add-one)
+      at q k = rw (get_or_tab most_tracks (gave_back p v m r) q 0 k, released_has v q (route_of p r).releases, add-one)
 
   pub back_all : (n : ℕ) → n ≡ length p.routes → tab most_tracks (gave_back p v m n) ≡ tab most_tracks (arrived p v m)
   unfolding gave_back arrived
@@ -148,7 +148,7 @@ module _ (m : List ℕ) (a : Deed) (long : length m ≡ most_tracks) where
   pub moved_trains : {train u v : ℕ} → a ≡ Moved train u v → set (set m v train) u no_train ≡ new_trains m a
   unfolding new_trains
   moved_trains {train} {u} {v} e =
-      rw (e, stood_set m long train v) (gone_set (tab most_tracks (stood train v m)) (length-tab most_tracks (stood train v m)) u)
+      rw (e, stood_set m long train v) (gone_set (tab most_tracks (stood train v m)) (length_tab most_tracks (stood train v m)) u)
 
   pub left_trains : {train u : ℕ} → a ≡ Left train u → set m u no_train ≡ new_trains m a
   unfolding new_trains
@@ -160,14 +160,14 @@ module _ (p : Plan) (a : Deed) (m : List ℕ) (long : length m ≡ most_tracks) 
     pub granted_lies : m₁ ≡ tab (length m) (turned normal normal_lie m) → m₂ ≡ tab (length m₁) (turned reverse reverse_lie m₁) → m₂ ≡ new_lies p m a
     unfolding new_lies turned lie_after
     granted_lies e₁ e₂ =
-        e₂ ∙ rw (e, ← n, ← v, e₁, length-tab (length m) (turned normal normal_lie m), long)
-        (tab-cong most_tracks _ _ (λ q h. rw (getD-tab most_tracks (turned normal normal_lie m) q 0 h)))
+        e₂ ∙ rw (e, ← n, ← v, e₁, length_tab (length m) (turned normal normal_lie m), long)
+        (tab_cong most_tracks _ _ (λ q h. rw (get_or_tab most_tracks (turned normal normal_lie m) q 0 h)))
 
     pub granted_holds : m₁ ≡ tab (length m) (held normal r m) → m₂ ≡ tab (length m₁) (held reverse r m₁) → m₂ ≡ new_holds p m a
     unfolding new_holds given_back deed_arrives route_holds held taken listed
     granted_holds e₁ e₂ =
-        e₂ ∙ rw (e, ← n, ← v, e₁, length-tab (length m) (held normal r m), long)
-        (tab-cong most_tracks _ _ (λ q h. rw (getD-tab most_tracks (held normal r m) q 0 h) (go (get_or m q 0) (has q normal) (has q reverse))))
+        e₂ ∙ rw (e, ← n, ← v, e₁, length_tab (length m) (held normal r m), long)
+        (tab_cong most_tracks _ _ (λ q h. rw (get_or_tab most_tracks (held normal r m) q 0 h) (go (get_or m q 0) (has q normal) (has q reverse))))
       where
         go : (x : ℕ) (b c : Bool) → cond c (adding (cond b (adding x r) x) r) (cond b (adding x r) x) ≡ cond (b || c) (adding x r) x
         go x true true = adding_adding x r

@@ -5,7 +5,7 @@ use Prim.Native.Nat.{ℕ, ◌<◌}
 use native.Mathlib.Omega.{arith}
 use lib.ListN.{length}
 use Rattle.laws.specs.Tests.{Is}
-use Rattle.laws.specs.Lists.{All, all-at, all_map, joined}
+use Rattle.laws.specs.Lists.{All, all_at, all_map, joined}
 use Rattle.plan.specs.declared.Release.{Release}
 use Rattle.plan.specs.Limits.{most_tracks, most_signals}
 use Rattle.plan.specs.Kinds.{is_point}
@@ -21,7 +21,7 @@ use Rattle.act.specs.Cells.{Ready, Placed}
 module _ (p : Plan) (readable : Readable p) (r : ℕ) (there : r < length p.routes) where
   route : ReadableRoute p.tracks (length p.signals) (route_of p r)
   unfolding route_of
-  route = all-at (ReadableRoute p.tracks (length p.signals)) p.routes r no_route readable.routes.each there
+  route = all_at (ReadableRoute p.tracks (length p.signals)) p.routes r no_route readable.routes.each there
 
   start_below : (route_of p r).start < most_signals
   start_below = omega (arith, route.start, readable.signals.few)

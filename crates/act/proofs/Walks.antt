@@ -11,12 +11,12 @@ use lib.Dec.{eqb, ltb}
 use borrow.Author.Tests.{eq-eqb, ne_eqb, lt-ltb, le-ltb, ltb-true, ltb-false}
 use Rattle.laws.specs.Tests.{same?}
 use Rattle.laws.specs.Lists.{any_of, has, walk_step, walk_end}
-use Rattle.laws.specs.Tables.{tab, length-tab, getD-tab, tab-cong, tab-of}
+use Rattle.laws.specs.Tables.{tab, length_tab, get_or_tab, tab_cong, tab_of}
 use Rattle.act.specs.Cells.{released}
 
 -- one cell written
 pub written : (m : List ℕ) (v a : ℕ) → set m v a ≡ tab (length m) (λ u. cond (eqb u v) a (get_or m u 0))
-written m v a = tab-of (set m v a) (length m) _ 0 (length-set m v a) (λ u h. at u h (same? u v))
+written m v a = tab_of (set m v a) (length m) _ 0 (length-set m v a) (λ u h. at u h (same? u v))
   where
     at : (u : ℕ) → u < length m → (u ≡ v) ⊎ (u ≢ v) → get_or (set m v a) u 0 ≡ cond (eqb u v) a (get_or m u 0)
     at u h (inl e) = rw (eq-eqb u v e, e) (get_or-set_same m v a 0 (omega arith))
@@ -56,7 +56,7 @@ module _ (g : ℕ → ℕ) where
         go (inr e) b = rw (ne_eqb q k e, get_or-set_other m q k (g (get_or m q 0)) 0 (λ x. e (sym x)))
 
     pub writes_tab : (l m : List ℕ) → writes g l m ≡ tab (length m) (λ k. cond (has k l) (g (get_or m k 0)) (get_or m k 0))
-    writes_tab l m = tab-of (writes g l m) (length m) _ 0 (length_writes l m) (λ k h. writes_at l m k h)
+    writes_tab l m = tab_of (writes g l m) (length m) _ 0 (length_writes l m) (λ k h. writes_at l m k h)
 
 -- The cells below i as f says, the others as they were.
 unfoldable pub up_to : ℕ → (ℕ → ℕ) → List ℕ → ℕ → ℕ
@@ -81,21 +81,21 @@ module _ (f : ℕ → ℕ) (m : List ℕ) where
 
   pub done_none : m ≡ tab (length m) (up_to 0 f m)
   unfolding up_to
-  done_none = tab-of m (length m) (up_to 0 f m) 0 refl (λ k h. rw (le-ltb k 0 (omega arith)))
+  done_none = tab_of m (length m) (up_to 0 f m) 0 refl (λ k h. rw (le-ltb k 0 (omega arith)))
 
   module _ (h : List ℕ) (i : ℕ) (e : h ≡ tab (length m) (up_to i f m)) where
     pub done_length : length h ≡ length m
-    done_length = rw e (length-tab (length m) (up_to i f m))
+    done_length = rw e (length_tab (length m) (up_to i f m))
 
     -- what stands in the next cell
     pub done_next : i < length m → get_or h i 0 ≡ get_or m i 0
-    done_next k = rw e (getD-tab (length m) (up_to i f m) i 0 k ∙ here i)
+    done_next k = rw e (get_or_tab (length m) (up_to i f m) i 0 k ∙ here i)
 
     pub done_set : (a : ℕ) → a ≡ f i → set h i a ≡ tab (length m) (up_to (i + 1) f m)
-    done_set a w = written h i a ∙ rw done_length (tab-cong (length m) _ _ (λ k b. rw e (rw (getD-tab (length m) (up_to i f m) k 0 b) (next i k a w (same? k i)))))
+    done_set a w = written h i a ∙ rw done_length (tab_cong (length m) _ _ (λ k b. rw e (rw (get_or_tab (length m) (up_to i f m) k 0 b) (next i k a w (same? k i)))))
 
     pub done_same : get_or m i 0 ≡ f i → h ≡ tab (length m) (up_to (i + 1) f m)
-    done_same w = rw e (tab-cong (length m) _ _ (λ j b. at j (same? j i)))
+    done_same w = rw e (tab_cong (length m) _ _ (λ j b. at j (same? j i)))
       where
         at : (j : ℕ) → (j ≡ i) ⊎ (j ≢ i) → up_to i f m j ≡ up_to (i + 1) f m j
         at j (inl q) = rw q (here i ∙ rw (← next i i (f i) refl (inl refl), eq-eqb i i refl) w)
@@ -103,7 +103,7 @@ module _ (f : ℕ → ℕ) (m : List ℕ) where
 
     pub done_all : ((k : ℕ) → k < length m → i ≤ k → get_or m k 0 ≡ f k) → h ≡ tab (length m) f
     unfolding up_to
-    done_all w = rw e (tab-cong (length m) _ _ (λ k b. go k b (ltb k i) refl))
+    done_all w = rw e (tab_cong (length m) _ _ (λ k b. go k b (ltb k i) refl))
       where
         go : (k : ℕ) → k < length m → (b : Bool) → ltb k i ≡ b → cond b (f k) (get_or m k 0) ≡ f k
         go k b true t = refl

@@ -14,7 +14,7 @@ use Rattle.laws.specs.declared.Found.{Found}
 use Rattle.laws.specs.declared.Found.TheVariants.{At, Nothing}
 use Rattle.laws.specs.Tests.{Is, clash, below?, or_e}
 use Rattle.laws.specs.Lists.{any_of, has}
-use Rattle.laws.specs.Search.{all_below, all_below_at, unless-at, unless-nothing}
+use Rattle.laws.specs.Search.{all_below, all_below_at, unless_at, unless_nothing}
 use Rattle.plan.specs.Records.{Plan}
 use Rattle.rules.specs.declared.Verdict.TheVariants.{Accepted, Broken}
 use Rattle.rules.specs.Verdict.{Rule, no_rule, rules, rule_of, lowest_broken, first_broken, verdict}
@@ -73,13 +73,13 @@ module _ (p : Plan) where
     unfolding rule_of first_broken
     check_passed t =
         let l = no_rule ∷ rules p in
-        sym (rw (add-one k, drop-cons l k no_rule (omega arith)) (unless-nothing (Broken k) (first_broken (suc k) (drop (suc k) l)) (sym e ∙ t))) ∙ f
+        sym (rw (add-one k, drop-cons l k no_rule (omega arith)) (unless_nothing (Broken k) (first_broken (suc k) (drop (suc k) l)) (sym e ∙ t))) ∙ f
 
     pub check_broken : {i : ℕ} → o ≡ At i → Broken k i ≡ verdict p
     unfolding rule_of first_broken
     check_broken t =
         let l = no_rule ∷ rules p in
-        sym (rw (drop-cons l k no_rule (omega arith)) (unless-at (Broken k) (first_broken (suc k) (drop (suc k) l)) (sym e ∙ t))) ∙ f
+        sym (rw (drop-cons l k no_rule (omega arith)) (unless_at (Broken k) (first_broken (suc k) (drop (suc k) l)) (sym e ∙ t))) ∙ f
 
   pub check_done : (k : ℕ) {n : ℕ} → n < k → length (rules p) ≡ n → From k → Accepted ≡ verdict p
   unfolding first_broken

@@ -9,8 +9,8 @@ use lib.ListN.{length, get_or, take, drop}
 use lib.Dec.{eqb, ltb, lit≤}
 use borrow.Author.Tests.{ltb-true}
 use Rattle.laws.specs.Tests.{clash, below?, and_l}
-use Rattle.laws.specs.Lists.{All, all-at}
-use Rattle.laws.specs.Search.{lowest_at, cond_ind, unless-ind}
+use Rattle.laws.specs.Lists.{All, all_at}
+use Rattle.laws.specs.Search.{lowest_at, cond_ind, unless_ind}
 use Rattle.plan.specs.Kinds.{exit}
 use Rattle.plan.specs.Limits.{most_tracks}
 use Rattle.plan.specs.Records.{Plan, home_of, route_of, entry_of, track_of}
@@ -81,7 +81,7 @@ Fit a = All Byte (answer_values a)
 
 module _ (p : Plan) (R : Readable p) (σ : State) (bytes : All Byte σ.trains) where
   train_byte : (u : ℕ) → Byte (get_or σ.trains u no_train)
-  train_byte u = elim (below? u (length σ.trains)) [ inl h ↦ all-at Byte σ.trains u no_train bytes h | inr h ↦ rw (get_d_none σ.trains u no_train h) (lit≤ tt) ]
+  train_byte u = elim (below? u (length σ.trains)) [ inl h ↦ all_at Byte σ.trains u no_train bytes h | inr h ↦ rw (get_d_none σ.trains u no_train h) (lit≤ tt) ]
 
   track_byte : (u : ℕ) → u < length p.tracks → Byte u
   track_byte u h = let k = few_tracks_lem p R in omega arith
@@ -103,8 +103,8 @@ module _ (p : Plan) (R : Readable p) (σ : State) (bytes : All Byte σ.trains) w
   request_fits r h =
       cond_ind Fit (is_red σ.signals (route_of p r).start)
       (λ _. unless_train_ind Fit _ _ _ (λ u train e. let (track, train) = busy_byte (route_of p r).clear e in (track, (train, tt)))
-      (λ _. unless-ind Fit _ _ _ (λ q e. (track_byte q (lowest_at _ (held_other (route_of p r).normal (route_of p r).reverse σ.lies σ.holds) e).below, tt))
-      (λ _. unless-ind Fit _ _ _ (λ q e. (track_byte q (lowest_at _ (derails (route_of p r).normal (route_of p r).reverse σ.trains σ.lies) e).below, tt))
+      (λ _. unless_ind Fit _ _ _ (λ q e. (track_byte q (lowest_at _ (held_other (route_of p r).normal (route_of p r).reverse σ.lies σ.holds) e).below, tt))
+      (λ _. unless_ind Fit _ _ _ (λ q e. (track_byte q (lowest_at _ (derails (route_of p r).normal (route_of p r).reverse σ.trains σ.lies) e).below, tt))
       (λ _. (route_byte r h, tt)))))
       (λ _. tt)
 
@@ -135,14 +135,14 @@ module _ (p : Plan) (R : Readable p) (σ : State) (bytes : All Byte σ.trains) w
   from_fits : (train u : ℕ) → Byte train → u < length p.tracks → Fit (move_from p σ.trains σ.lies σ.signals train u)
   unfolding All move_from way_out answer_values refusal_values deed_values
   from_fits train u k h =
-      unless-ind Fit _ _ _ (λ s e. (signal_byte s (red_at_lem p σ R u e).0.0, tt))
+      unless_ind Fit _ _ _ (λ s e. (signal_byte s (red_at_lem p σ R u e).0.0, tt))
       (λ _. cond_ind Fit (exit (track_of p u)) (λ _. (k, (track_byte u h, tt)))
       (λ x. to_fits train u (way_out p σ.lies u) k (track_byte u h)
       (track_byte _ (out_below p R u (is_reverse σ.lies u) h (λ e. clash ((exit_is (track_of p u)).1 e) x)))))
 
   move_fits : (train : ℕ) → Byte train → Fit (answer_move p σ.trains σ.lies σ.signals train)
   unfolding All answer_move front_of answer_values refusal_values
-  move_fits train k = unless-ind Fit _ _ _ (λ u e. from_fits train u k (lowest_at (length p.tracks) (stands σ.trains train) e).below) (λ _. tt)
+  move_fits train k = unless_ind Fit _ _ _ (λ u e. from_fits train u k (lowest_at (length p.tracks) (stands σ.trains train) e).below) (λ _. tt)
 
   decided_fits : (event : Event) → ByteEvent event → Fit (decided p σ event)
   unfolding All decided answer_values refusal_values

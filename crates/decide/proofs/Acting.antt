@@ -5,7 +5,7 @@ use lib.ListN.{length}
 use lib.Dec.{eqb, ltb}
 use borrow.Author.Tests.{ltb-true}
 use Rattle.laws.specs.Tests.{and_l}
-use Rattle.laws.specs.Search.{lowest_at, cond_ind, unless-ind}
+use Rattle.laws.specs.Search.{lowest_at, cond_ind, unless_ind}
 use Rattle.plan.specs.Kinds.{exit}
 use Rattle.plan.specs.Records.{Plan, home_of, route_of, entry_of, track_of}
 use Rattle.plan.specs.File.{Readable}
@@ -24,8 +24,8 @@ module _ {p : Plan} (w : Readable p) (σ : State) where
   request_acts r h =
       cond_ind (Acts p) (is_red σ.signals (route_of p r).start)
       (λ _. unless_train_ind (Acts p) _ _ _ (λ u train _. tt)
-      (λ _. unless-ind (Acts p) _ _ _ (λ q _. tt)
-      (λ _. unless-ind (Acts p) _ _ _ (λ q _. tt)
+      (λ _. unless_ind (Acts p) _ _ _ (λ q _. tt)
+      (λ _. unless_ind (Acts p) _ _ _ (λ q _. tt)
       (λ _. h))))
       (λ _. tt)
 
@@ -55,13 +55,13 @@ module _ {p : Plan} (w : Readable p) (σ : State) where
   from_acts : (train u : ℕ) → u < length p.tracks → Acts p (move_from p σ.trains σ.lies σ.signals train u)
   unfolding move_from Acts Names
   from_acts train u h =
-      unless-ind (Acts p) _ _ _ (λ s _. tt)
+      unless_ind (Acts p) _ _ _ (λ s _. tt)
       (λ _. cond_ind (Acts p) (exit (track_of p u)) (λ _. h)
       (λ x. to_acts train u (way_out p σ.lies u) h (next_within w h x σ.lies)))
 
   move_acts : (train : ℕ) → Acts p (answer_move p σ.trains σ.lies σ.signals train)
   unfolding answer_move front_of Acts Names
-  move_acts train = unless-ind (Acts p) _ _ _ (λ u e. from_acts train u (lowest_at (length p.tracks) (stands σ.trains train) e).below) (λ _. tt)
+  move_acts train = unless_ind (Acts p) _ _ _ (λ u e. from_acts train u (lowest_at (length p.tracks) (stands σ.trains train) e).below) (λ _. tt)
 
   pub decided_acts : (event : Event) → Acts p (decided p σ event)
   unfolding decided Acts Names

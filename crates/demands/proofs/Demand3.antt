@@ -30,7 +30,7 @@ use Rattle.demands.proofs.Invariant.{Invariant, fresh_invariant}
 use Rattle.demands.proofs.Accidents.{no_accident}
 use Rattle.demands.proofs.Steps.{keeps}
 use Rattle.demands.proofs.Counting.{shown_none, shown_most_lem, shown_train_lem, counts}
-use Rattle.demands.proofs.History.{all-last, held_after}
+use Rattle.demands.proofs.History.{all_last, held_after}
 
 -- The history of the first n events is the first n answers.
 pub history_first : (box : Box) (p : Plan) (σ : State) (events : List Event) (n : ℕ) → history box p σ (take n events) ≡ take n (history box p σ events)
@@ -102,8 +102,8 @@ module _ (p : Plan) (reads : Readable p) (sound : Sound p) where
     held = held;
     agreed = λ r x k. as_listed τ (keeps reads sound w inv a t f) r x k ((held r x).0 k).0;
     whole = stays σ τ reads w a t f;
-    unharmed = all-last _ h a s.unharmed (λ harm e. no_accident p reads sound σ inv w harm (subst (Told p σ) e t));
-    formed = all-last _ h a s.formed (λ e. ill (subst (Told p σ) e t) w);
+    unharmed = all_last _ h a s.unharmed (λ harm e. no_accident p reads sound σ inv w harm (subst (Told p σ) e t));
+    formed = all_last _ h a s.formed (λ e. ill (subst (Told p σ) e t) w);
   }
     where
       held : (r x : ℕ) → Holds τ r x ↔ (Listed p r x × SinceGrant p r x (h ++ (a ∷ [])))

@@ -21,10 +21,10 @@ use Rattle.demands.specs.Demands.{SinceGrant}
 
 -- Lists with one more element at the end.
 
-pub all-last {ℓ} : {A : Type ℓ} (ok : A → Type 0) (l : List A) (a : A) → All ok l → ok a → All ok (l ++ (a ∷ []))
+pub all_last {ℓ} : {A : Type ℓ} (ok : A → Type 0) (l : List A) (a : A) → All ok l → ok a → All ok (l ++ (a ∷ []))
 unfolding All
-all-last ok [] a w k = (k, tt)
-all-last ok (b ∷ l) a w k = (w.0, all-last ok l a w.1 k)
+all_last ok [] a w k = (k, tt)
+all_last ok (b ∷ l) a w k = (w.0, all_last ok l a w.1 k)
 
 pub all_but {ℓ} : {A : Type ℓ} (ok : A → Type 0) (l : List A) (a : A) → All ok (l ++ (a ∷ [])) → All ok l × ok a
 unfolding All
@@ -32,13 +32,13 @@ all_but ok [] a w = (tt, w.0)
 all_but ok (b ∷ l) a w = let (v, k) = all_but ok l a w.1 in ((w.0, v), k)
 
 -- a list with a last element, split: at the last element, or before it
-last-split {ℓ} : {A : Type ℓ} (l : List A) (a x : A) (earlier later : List A) → l ++ (a ∷ []) ≡ earlier ++ (x ∷ later)
+last_split {ℓ} : {A : Type ℓ} (l : List A) (a x : A) (earlier later : List A) → l ++ (a ∷ []) ≡ earlier ++ (x ∷ later)
     → ((later ≡ []) × (a ≡ x)) ⊎ ((before : List A) × (later ≡ before ++ (a ∷ [])) × (l ≡ earlier ++ (x ∷ before)))
-last-split [] a x [] later e = inl (cc, cc)
-last-split [] a x (y ∷ []) later e = never (cc)
-last-split [] a x (y ∷ (z ∷ earlier)) later e = never (cc)
-last-split (b ∷ l) a x [] later e = inr (l, cc, cc)
-last-split (b ∷ l) a x (y ∷ earlier) later e = elim (last-split l a x earlier later (cc)) [
+last_split [] a x [] later e = inl (cc, cc)
+last_split [] a x (y ∷ []) later e = never (cc)
+last_split [] a x (y ∷ (z ∷ earlier)) later e = never (cc)
+last_split (b ∷ l) a x [] later e = inr (l, cc, cc)
+last_split (b ∷ l) a x (y ∷ earlier) later e = elim (last_split l a x earlier later (cc)) [
   | inl w ↦ inl w
   | inr w ↦ inr (let (before, f, g) = w in (before, f, cc))
 ]
@@ -92,9 +92,9 @@ module _ (p : Plan) (r x : ℕ) where
         earlier = since.earlier;
         later = since.later ++ (a ∷ []);
         splits = ap (λ l. l ++ (a ∷ [])) since.splits ∙ append_assoc since.earlier (Done (Granted r) ∷ since.later) (a ∷ []);
-        latest = all-last _ since.later a since.latest s.ungranted;
-        uncancelled = all-last _ since.later a since.uncancelled s.uncancelled;
-        unreleased = all-last _ since.later a since.unreleased s.unreleased;
+        latest = all_last _ since.later a since.latest s.ungranted;
+        uncancelled = all_last _ since.later a since.uncancelled s.uncancelled;
+        unreleased = all_last _ since.later a since.unreleased s.unreleased;
       }
 
       now : a ≡ Done (Granted r) → SinceGrant p r x (h ++ (a ∷ []))
@@ -118,7 +118,7 @@ module _ (p : Plan) (r x : ℕ) where
           ]
 
           back : Listed p r x × SinceGrant p r x (h ++ (a ∷ [])) → Holds τ r x
-          back (l, since) = elim (last-split h a (Done (Granted r)) since.earlier since.later since.splits) [
+          back (l, since) = elim (last_split h a (Done (Granted r)) since.earlier since.later since.splits) [
             | inl (none, e) ↦ (subst (Follows p σ τ) e f).holds x l
             | inr (before, e, g) ↦ (let (c1, k1) = all_but _ before a (rw e at since.latest) in
                 let (c2, k2) = all_but _ before a (rw e at since.uncancelled) in

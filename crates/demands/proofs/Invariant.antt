@@ -20,7 +20,7 @@ use Rattle.state.specs.State.{no_train, green_for, train_at, lie_at, shown_at, H
 use Rattle.events.specs.Meaning.{Next}
 use Rattle.events.proofs.Facts.{start_below}
 use Rattle.events.proofs.Cases.{Either}
-use Rattle.events.proofs.Follow.{green-red}
+use Rattle.events.proofs.Follow.{green_red}
 use Rattle.events.proofs.Kept.{no_train_lem, no_hold, all_red}
 use Rattle.demands.proofs.Cases.{forks?, legged?, lie_of, same_lie, next_lie}
 use Rattle.demands.proofs.Facts.{at_home, track_in_lem, one_before, home_straight, release_on, release_later}
@@ -63,7 +63,7 @@ pub record Way (p : Plan) (σ : State) (u v : ℕ) : Type 0 where
 pub fresh_invariant : (p : Plan) → Invariant p fresh
 fresh_invariant p = record {
   lies = λ r x lie h w. absurd (no_hold r x h);
-  green = λ r g. green-red _ r g (all_red (route_of p r).start);
+  green = λ r g. green_red _ r g (all_red (route_of p r).start);
   away = λ u t n. absurd (t (no_train_lem u));
 }
 

@@ -24,7 +24,7 @@ use Rattle.events.specs.Meaning.{Busy, HeldOther, SignalGreen, AfterGrant, After
 use Rattle.events.proofs.Told.{Told}
 use Rattle.events.proofs.Kept.{stood}
 use Rattle.events.proofs.Facts.{start_below}
-use Rattle.events.proofs.Follow.{green-red, grant_holds, grant_keeps, grant_still, grant_green, cancel_holds, cancel_signal, move_from_lem, move_empty, move_holds, move_signal, leave_trains, leave_signal}
+use Rattle.events.proofs.Follow.{green_red, grant_holds, grant_keeps, grant_still, grant_green, cancel_holds, cancel_signal, move_from_lem, move_empty, move_holds, move_signal, leave_trains, leave_signal}
 use Rattle.demands.proofs.Cases.{lie_of}
 use Rattle.demands.proofs.Facts.{at_home, path_clear_lem, release_on}
 use Rattle.demands.proofs.Invariant.{Ahead, Mobile, Place, Way, Invariant, sole}
@@ -99,7 +99,7 @@ module _ (p : Plan) (reads : Readable p) (sound : Sound p) (σ : State) (inv : I
     cancel_kept = record {
       lies = λ q x lie h w. c.lies x ∙ inv.lies q x lie (cancel_holds c q x h).1 w;
       green = λ q e. elim (cancel_signal c (route_of p q).start) [
-        | inl z ↦ green-red _ q e z
+        | inl z ↦ green_red _ q e z
         | inr z ↦ cancel_ahead (λ y. z.0 (ap (λ k. (route_of p k).start) y)) (inv.green q (sym z.1 ∙ e))
       ];
       away = away;
@@ -137,7 +137,7 @@ module _ (p : Plan) (reads : Readable p) (sound : Sound p) (σ : State) (inv : I
     pub leave_kept : Invariant p τ
     leave_kept = record {
       lies = λ q x lie h w. f.lies x ∙ inv.lies q x lie (sym (f.holds q x) ∙ h) w;
-      green = λ q g. elim (leave_signal f (route_of p q).start) [ inl z ↦ green-red _ q g z | inr z ↦ leave_ahead (inv.green q (sym z ∙ g)) ];
+      green = λ q g. elim (leave_signal f (route_of p q).start) [ inl z ↦ green_red _ q g z | inr z ↦ leave_ahead (inv.green q (sym z ∙ g)) ];
       away = λ x t n. elim (leave_trains f x) [
         | inl z ↦ absurd (t z)
         | inr z ↦ (let pl = inv.away x (λ y. t (z ∙ y)) n in place_kept pl (leave_ahead pl.ahead))
@@ -181,7 +181,7 @@ module _ (p : Plan) (reads : Readable p) (sound : Sound p) (σ : State) (inv : I
       where
         green : (q : ℕ) → shown_at τ (route_of p q).start ≡ green_for q → Ahead p τ q 0
         green q g = elim (move_signal m (route_of p q).start) [
-          | inl z ↦ green-red _ q g z
+          | inl z ↦ green_red _ q g z
           | inr z ↦ (let a = inv.green q (sym z.1 ∙ g) in
               move_ahead (λ e. z.0 (start_below p reads q a.known, sym (at_home p q) ∙ e)) a)
         ]

@@ -7,7 +7,7 @@ use Prim.Native.Nat.{ℕ, zero, suc, ◌+◌, ◌<◌, ◌≤◌, ◌-◌}
 use native.Mathlib.Omega.{arith}
 use lib.ListN.{length, get_or}
 use Rattle.laws.specs.Tests.{Is, below?}
-use Rattle.laws.specs.Lists.{All, all-at, In}
+use Rattle.laws.specs.Lists.{All, all_at, In}
 use Rattle.plan.specs.Limits.{most_tracks, most_signals, most_routes}
 use Rattle.plan.specs.Kinds.{out, Exit, no_track, is_point}
 use Rattle.plan.specs.Records.{Plan, no_route, no_entry, track_of, home_of, route_of, entry_of}
@@ -24,7 +24,7 @@ get_d_none (a ∷ l) (suc i) d h = get_d_none l i d (omega arith)
 
 -- what is so of each of a list is so of each that the list has
 pub each_in : (ok : ℕ → Type 0) (l : List ℕ) → All ok l → (x : ℕ) → In x l → ok x
-each_in ok l w x m = rw (← m.2) (all-at ok l m.0 0 w m.1)
+each_in ok l w x m = rw (← m.2) (all_at ok l m.0 0 w m.1)
 
 -- a list that rises rises over any distance
 rises_far : (l : List ℕ) → Rises l → (d i : ℕ) → i + suc d < length l → get_or l i 0 < get_or l (i + suc d) 0
@@ -51,20 +51,20 @@ module _ (p : Plan) (R : Readable p) where
 
   pub route_read : (r : ℕ) → r < length p.routes → ReadableRoute p.tracks (length p.signals) (route_of p r)
   unfolding route_of
-  route_read r h = all-at (ReadableRoute p.tracks (length p.signals)) p.routes r no_route R.routes.each h
+  route_read r h = all_at (ReadableRoute p.tracks (length p.signals)) p.routes r no_route R.routes.each h
 
   pub entry_read : (e : ℕ) → e < length p.entries → ReadableEntry (length p.tracks) (entry_of p e)
   unfolding entry_of
-  entry_read e h = all-at (ReadableEntry (length p.tracks)) p.entries e no_entry R.entries.each h
+  entry_read e h = all_at (ReadableEntry (length p.tracks)) p.entries e no_entry R.entries.each h
 
   track_read : (u : ℕ) → u < length p.tracks → ReadableTrack (length p.tracks) (track_of p u)
   unfolding track_of
-  track_read u h = all-at (ReadableTrack (length p.tracks)) p.tracks u no_track R.tracks.each h
+  track_read u h = all_at (ReadableTrack (length p.tracks)) p.tracks u no_track R.tracks.each h
 
   -- a home is a track
   pub home_below : (s : ℕ) → s < length p.signals → home_of p s < length p.tracks
   unfolding home_of
-  home_below s h = all-at (λ u. u < length p.tracks) p.signals s 0 R.signals.each h
+  home_below s h = all_at (λ u. u < length p.tracks) p.signals s 0 R.signals.each h
 
   -- a route's start is a signal; its clear tracks are tracks, its listed points are points
   pub start_below : (r : ℕ) → r < length p.routes → (route_of p r).start < length p.signals

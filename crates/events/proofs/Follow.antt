@@ -13,8 +13,8 @@ use Rattle.events.specs.Meaning.{OtherLie, AfterGrant, AfterCancel, AfterMove, A
 use Rattle.events.proofs.Cases.{in?, stands_at?, listed?, releases?}
 
 -- a signal that is green is not red
-pub green-red {ℓ} : {A : Type ℓ} (s r : ℕ) → s ≡ green_for r → s ≡ red → A
-green-red s r g d = absurd (omega arith)
+pub green_red {ℓ} : {A : Type ℓ} (s r : ℕ) → s ≡ green_for r → s ≡ red → A
+green_red s r g d = absurd (omega arith)
 
 -- and one that is not red is green
 pub not_red_lem : (s : ℕ) → s ≢ red → (r : ℕ) × (s ≡ green_for r)

@@ -30,7 +30,7 @@ use Rattle.events.proofs.Told.{Front, Entering, Moving, Doing, Told}
 use Rattle.events.proofs.Given.{given, told}
 use Rattle.events.proofs.Cases.{in?, listed?}
 use Rattle.events.proofs.Views.{after_grant, after_cancel, after_entry_lem, after_move, after_leaving}
-use Rattle.events.proofs.Follow.{green-red, not_red_lem, grant_holds, grant_green, cancel_holds, cancel_signal, move_from_lem, move_empty, move_holds, move_signal, leave_trains, leave_signal}
+use Rattle.events.proofs.Follow.{green_red, not_red_lem, grant_holds, grant_green, cancel_holds, cancel_signal, move_from_lem, move_empty, move_holds, move_signal, leave_trains, leave_signal}
 
 -- Where a deed brings and takes trains: tracks of the plan; a move goes to another track.
 
@@ -129,7 +129,7 @@ module _ {p : Plan} {σ τ : State} (w : WellFormed p σ) where
   holdings_fewer f = record { routes = λ r x e h. w.routes_end r x e (f r x h); point = λ r x h. w.held_point r x (f r x h) }
 
   signals_fewer : ((s : ℕ) → (shown_at τ s ≡ red) ⊎ (shown_at τ s ≡ shown_at σ s)) → Signals p τ
-  signals_fewer f = record { green = λ s r g. elim (f s) [ inl z ↦ green-red _ r g z | inr z ↦ w.green s r (sym z ∙ g) ] }
+  signals_fewer f = record { green = λ s r g. elim (f s) [ inl z ↦ green_red _ r g z | inr z ↦ w.green s r (sym z ∙ g) ] }
 
   module _ (reads : Readable p) (r : ℕ) (known : r < length p.routes) (g : AfterGrant p σ τ r) where
     grant_lies : Lies p τ
@@ -242,4 +242,4 @@ fresh_formed p reads = whole fresh reads
     (record { once = λ u v t e. absurd (t (no_train_lem u)); end = λ u h. no_train_lem u })
     (record { point = λ x e. (let z = all_normal x in absurd (omega arith)); two = λ x. inl (all_normal x) })
     (record { routes = λ r x e h. no_hold r x h; point = λ r x h. absurd (no_hold r x h) })
-    (record { green = λ s r g. green-red _ r g (all_red s) })
+    (record { green = λ s r g. green_red _ r g (all_red s) })

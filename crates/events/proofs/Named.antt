@@ -11,7 +11,7 @@ use borrow.Author.Tests.{ne_eqb, lt-ltb, ltb-true}
 use Rattle.laws.specs.Tests.{never, fails, and_l}
 use Rattle.laws.specs.Lists.{In}
 use Rattle.laws.specs.Answers.{None, LowestSuch}
-use Rattle.laws.specs.Search.{unless, cond_ind, unless-ind}
+use Rattle.laws.specs.Search.{unless, cond_ind, unless_ind}
 use Rattle.plan.specs.Kinds.{exit}
 use Rattle.plan.specs.Records.{Plan, home_of, route_of, entry_of, track_of}
 use Rattle.plan.specs.File.{Readable}
@@ -55,9 +55,9 @@ module _ (p : Plan) (σ : State) (Q : Answer → Type 0) where
       → ((u v : ℕ) → Q (Done (Left train u)) × Q (Done (Moved train u v))) → Q (answer_move p σ.trains σ.lies σ.signals train)
   unfolding answer_move move_from move_to
   move_cases train out red harm done =
-      unless-ind Q _ _ _
+      unless_ind Q _ _ _
       (λ u _. let v = way_out p σ.lies u in
-      unless-ind Q _ _ _ (λ s _. red s)
+      unless_ind Q _ _ _ (λ s _. red s)
       (λ _. cond_ind Q (exit (track_of p u)) (λ _. (done u v).0)
       (λ _. cond_ind Q (has_train σ.trains v) (λ _. (harm v).0)
       (λ _. cond_ind Q (runs_through p σ.lies u v) (λ _. (harm v).1) (λ _. (done u v).1)))))
@@ -84,8 +84,8 @@ module _ (p : Plan) (R : Readable p) (σ : State) (u train : ℕ) where
       let Q = Named (route_of p r).clear in
       cond_ind Q (is_red σ.signals (route_of p r).start)
       (λ _. test_named (route_of p r).clear (clear_below p R r h)
-      (unless-ind Q _ _ _ (λ q _ e. never (cc))
-      (λ _. unless-ind Q _ _ _ (λ q _ e. never (cc))
+      (unless_ind Q _ _ _ (λ q _ e. never (cc))
+      (λ _. unless_ind Q _ _ _ (λ q _ e. never (cc))
       (λ _ e. never (cc)))))
       (λ _ e. never (cc))
 
@@ -151,12 +151,12 @@ module _ (p : Plan) (R : Readable p) (σ : State) (q : ℕ) where
       let Q = NamedHeld (Request r) in
       cond_ind Q (is_red σ.signals (route_of p r).start)
       (λ red. unless_train_ind Q _ _ _ (λ u train _ e. never (cc))
-      (λ nobody. unless-ind Q _ _ _
+      (λ nobody. unless_ind Q _ _ _
       (λ x e same.
       let at : x ≡ q = cc in
       let free = subst (Meets p σ (route_of p r).clear) nobody (busy_train_tells p σ (route_of p r).clear (length p.tracks) (clear_below p R r h)) in
       (r, refl, h, (red_tests σ (route_of p r).start).0 red, free, subst (LowestSuch (HeldOther p σ r)) at (search_at (held_tells p σ r (length p.tracks) (listed_below p R r h)) e)))
-      (λ _. unless-ind Q _ _ _ (λ x _ e. never (cc))
+      (λ _. unless_ind Q _ _ _ (λ x _ e. never (cc))
       (λ _ e. never (cc)))))
       (λ _ e. never (cc))
 

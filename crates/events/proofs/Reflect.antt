@@ -10,7 +10,7 @@ use lib.Dec.{eqb}
 use borrow.Author.Tests.{eqb-true, eqb-false, eq-eqb, ne_eqb}
 use Rattle.laws.specs.declared.Found.{Found}
 use Rattle.laws.specs.declared.Found.TheVariants.{At, Nothing}
-use Rattle.laws.specs.Tests.{Is, split, never, clash, below?, and_l, and_r, and_i, not_t, not_i, cond-t, cond-f, fails}
+use Rattle.laws.specs.Tests.{Is, split, never, clash, below?, and_l, and_r, and_i, not_t, not_i, cond_t, cond_f, fails}
 use Rattle.laws.specs.Lists.{In, has, has_in, in_has}
 use Rattle.laws.specs.Answers.{None, LowestSuch}
 use Rattle.laws.specs.Search.{lowest, lowest_at, lowest_none, at_lowest}
@@ -107,15 +107,15 @@ module _ (p : Plan) (σ : State) where
     other_says q d = go (split (has q (route_of p r).reverse)) (split (has q (route_of p r).normal))
       where
         go : (has q (route_of p r).reverse ≡ true) ⊎ (has q (route_of p r).reverse ≡ false) → (has q (route_of p r).normal ≡ true) ⊎ (has q (route_of p r).normal ≡ false) → OtherLie p σ r q
-        go (inl a) b = inl (has_in q (route_of p r).reverse a, λ z. d (cond-t _ _ a ∙ sym z))
-        go (inr a) (inl b) = inr (λ m. clash (in_has q (route_of p r).reverse m) a, has_in q (route_of p r).normal b, λ z. d (cond-f _ _ a ∙ cond-t _ _ b ∙ sym z))
-        go (inr a) (inr b) = absurd (d (cond-f _ _ a ∙ cond-f _ _ b))
+        go (inl a) b = inl (has_in q (route_of p r).reverse a, λ z. d (cond_t _ _ a ∙ sym z))
+        go (inr a) (inl b) = inr (λ m. clash (in_has q (route_of p r).reverse m) a, has_in q (route_of p r).normal b, λ z. d (cond_f _ _ a ∙ cond_t _ _ b ∙ sym z))
+        go (inr a) (inr b) = absurd (d (cond_f _ _ a ∙ cond_f _ _ b))
 
     other_hears : (q : ℕ) → OtherLie p σ r q → lie_after (route_of p r).normal (route_of p r).reverse σ.lies q ≢ lie_at σ q
     unfolding lie_after lie_at
-    other_hears q (inl s) z = s.1 (sym z ∙ cond-t _ _ (in_has q (route_of p r).reverse s.0))
+    other_hears q (inl s) z = s.1 (sym z ∙ cond_t _ _ (in_has q (route_of p r).reverse s.0))
     other_hears q (inr s) z =
-        s.2 (sym z ∙ cond-f _ _ (fails (has q (route_of p r).reverse) (λ e. s.0 (has_in q (route_of p r).reverse e))) ∙ cond-t _ _ (in_has q (route_of p r).normal s.1))
+        s.2 (sym z ∙ cond_f _ _ (fails (has q (route_of p r).reverse) (λ e. s.0 (has_in q (route_of p r).reverse e))) ∙ cond_t _ _ (in_has q (route_of p r).normal s.1))
 
     abbrev turned : ℕ → Bool
     turned q = turns (route_of p r).normal (route_of p r).reverse σ.lies q
@@ -196,16 +196,16 @@ module _ (p : Plan) (σ : State) where
       where
         go : (o : Found) → signal_at p u ≡ o → if_red σ.signals o ≡ At s → RedAt p σ u s
         go (At t) q z = elim (split (is_red σ.signals t)) [
-          | inl y ↦ (let w : At t ≡ At s = sym (cond-t (At t) Nothing y) ∙ z in
+          | inl y ↦ (let w : At t ≡ At s = sym (cond_t (At t) Nothing y) ∙ z in
               let x : t ≡ s = cc in
               rw (← x) (home_at u t q, (red_tests σ t).0 y))
-          | inr n ↦ never (cc (cond-f (At t) Nothing n))
+          | inr n ↦ never (cc (cond_f (At t) Nothing n))
         ]
         go Nothing q z = never (cc)
 
     pub at_red : {s : ℕ} → RedAt p σ u s → red_at p σ.signals u ≡ At s
     unfolding red_at
-    at_red {s} w = rw (at_home s w.0) (cond-t (At s) Nothing ((red_tests σ s).1 w.1))
+    at_red {s} w = rw (at_home s w.0) (cond_t (At s) Nothing ((red_tests σ s).1 w.1))
 
     pub red_none : red_at p σ.signals u ≡ Nothing → None (RedAt p σ u)
     red_none e s w = never (cc (at_red w))

@@ -8,9 +8,9 @@ use native.Mathlib.Omega.{arith}
 use lib.ListN.{length, get_or}
 use lib.Dec.{eqb}
 use borrow.Author.Tests.{eq-eqb, ne_eqb}
-use Rattle.laws.specs.Tests.{Is, split, clash, below?, same?, cond-t, cond-f, fails}
+use Rattle.laws.specs.Tests.{Is, split, clash, below?, same?, cond_t, cond_f, fails}
 use Rattle.laws.specs.Lists.{has, has_in, in_has}
-use Rattle.laws.specs.Tables.{tab, getD-tab, length-tab}
+use Rattle.laws.specs.Tables.{tab, get_or_tab, length_tab}
 use Rattle.laws.specs.Sets.{member, excluding, member_excluding, member_excluding_other, excluding_le}
 use Rattle.plan.specs.Limits.{most_tracks, most_signals}
 use Rattle.plan.specs.Records.{Plan, route_of}
@@ -36,8 +36,8 @@ use Rattle.events.proofs.Cases.{releases_below}
 -- A table shows its function everywhere, if that is nothing past the table's end.
 cell : (n : ℕ) (g : ℕ → ℕ) (i : ℕ) → (n ≤ i → g i ≡ 0) → get_or (tab n g) i 0 ≡ g i
 cell n g i h = elim (below? i n) [
-  | inl k ↦ getD-tab n g i 0 k
-  | inr k ↦ get_d_beyond (tab n g) i (rw (length-tab n g) k) ∙ sym (h k)
+  | inl k ↦ get_or_tab n g i 0 k
+  | inr k ↦ get_d_beyond (tab n g) i (rw (length_tab n g) k) ∙ sym (h k)
 ]
 
 -- Holds dropped of several routes.
@@ -95,7 +95,7 @@ module _ (p : Plan) (R : Readable p) (σ : State) (W : WellFormed p σ) where
 
     lie_kept : (q : ℕ) → (Listed p r q → ⊥) → lie_after (route_of p r).normal (route_of p r).reverse σ.lies q ≡ lie_at σ q
     unfolding lie_after lie_at
-    lie_kept q n = let w = unlisted q n in cond-f _ _ w.0 ∙ cond-f _ _ w.1
+    lie_kept q n = let w = unlisted q n in cond_f _ _ w.0 ∙ cond_f _ _ w.1
 
     grant_lie : (q : ℕ) → lie_at (after_deed p σ (Granted r)) q ≡ lie_after (route_of p r).normal (route_of p r).reverse σ.lies q
     unfolding after_deed new_lies lie_at
@@ -105,17 +105,17 @@ module _ (p : Plan) (R : Readable p) (σ : State) (W : WellFormed p σ) where
     grant_holds : (q : ℕ) → get_or (after_deed p σ (Granted r)).holds q 0 ≡ taken r (route_of p r).normal (route_of p r).reverse σ.holds q
     unfolding after_deed new_holds given_back deed_arrives route_holds taken
     grant_holds q = cell most_tracks (taken r (route_of p r).normal (route_of p r).reverse σ.holds) q
-        (λ h. cond-f _ _ (fails (listed (route_of p r).normal (route_of p r).reverse q) (λ e. far q h ((listed_is p r q).0 e)))
+        (λ h. cond_f _ _ (fails (listed (route_of p r).normal (route_of p r).reverse q) (λ e. far q h ((listed_is p r q).0 e)))
         ∙ none_held q (let b = few_tracks_lem p R in omega arith))
 
     grant_taken : (q : ℕ) → Listed p r q → get_or (after_deed p σ (Granted r)).holds q 0 ≡ adding (get_or σ.holds q 0) r
     unfolding taken
-    grant_taken q m = grant_holds q ∙ cond-t _ _ ((listed_is p r q).1 m)
+    grant_taken q m = grant_holds q ∙ cond_t _ _ ((listed_is p r q).1 m)
 
     grant_same : (q : ℕ) → (Listed p r q → ⊥) → get_or (after_deed p σ (Granted r)).holds q 0 ≡ get_or σ.holds q 0
     unfolding taken
     grant_same q n =
-        grant_holds q ∙ cond-f _ _ (fails (listed (route_of p r).normal (route_of p r).reverse q) (λ e. n ((listed_is p r q).0 e)))
+        grant_holds q ∙ cond_f _ _ (fails (listed (route_of p r).normal (route_of p r).reverse q) (λ e. n ((listed_is p r q).0 e)))
 
     start_few : (route_of p r).start < most_signals
     start_few = let a = start_below p R r k in let b = few_signals p R in omega arith
@@ -124,23 +124,23 @@ module _ (p : Plan) (R : Readable p) (σ : State) (W : WellFormed p σ) where
     set_signal : (colour s : ℕ) → get_or (tab most_signals (shown (route_of p r).start colour σ.signals)) s 0 ≡ shown (route_of p r).start colour σ.signals s
     unfolding shown shown_at
     set_signal colour s = cell most_signals (shown (route_of p r).start colour σ.signals) s
-        (λ h. cond-f _ _ (ne_eqb s (route_of p r).start (λ z. let a = start_few in omega arith))
+        (λ h. cond_f _ _ (ne_eqb s (route_of p r).start (λ z. let a = start_few in omega arith))
         ∙ W.signals_end s (let b = few_signals p R in omega arith))
 
     shown_start : (colour : ℕ) → shown (route_of p r).start colour σ.signals (route_of p r).start ≡ colour
     unfolding shown
-    shown_start colour = cond-t _ _ (eq-eqb (route_of p r).start (route_of p r).start refl)
+    shown_start colour = cond_t _ _ (eq-eqb (route_of p r).start (route_of p r).start refl)
 
     shown_other : (colour s : ℕ) → s ≢ (route_of p r).start → shown (route_of p r).start colour σ.signals s ≡ shown_at σ s
     unfolding shown shown_at
-    shown_other colour s d = cond-f _ _ (ne_eqb s (route_of p r).start d)
+    shown_other colour s d = cond_f _ _ (ne_eqb s (route_of p r).start d)
 
     pub after_grant : AfterGrant p σ (after_deed p σ (Granted r)) r
     unfolding after_deed new_trains new_signals red_behind deed_leaves route_signals train_at shown_at held_by lie_after
     after_grant = record {
       trains = λ u. refl;
-      reverse = λ q m. grant_lie q ∙ cond-t _ _ (in_has q (route_of p r).reverse m);
-      normal = λ q m n. grant_lie q ∙ cond-f _ _ (fails (has q (route_of p r).reverse) (λ e. n (has_in q (route_of p r).reverse e))) ∙ cond-t _ _ (in_has q (route_of p r).normal m);
+      reverse = λ q m. grant_lie q ∙ cond_t _ _ (in_has q (route_of p r).reverse m);
+      normal = λ q m n. grant_lie q ∙ cond_f _ _ (fails (has q (route_of p r).reverse) (λ e. n (has_in q (route_of p r).reverse e))) ∙ cond_t _ _ (in_has q (route_of p r).normal m);
       other_lies = λ q n. grant_lie q ∙ lie_kept q n;
       holds = λ q m. ap (λ (set : ℕ). member set r) (grant_taken q m) ∙ member_adding (get_or σ.holds q 0) r (let b = few_routes p R in omega arith);
       other_holds = λ j q w. other j q w (split (listed (route_of p r).normal (route_of p r).reverse q));
@@ -182,15 +182,15 @@ module _ (p : Plan) (R : Readable p) (σ : State) (W : WellFormed p σ) where
     stood_cell : (x : ℕ) → get_or (tab most_tracks (stood train v σ.trains)) x 0 ≡ stood train v σ.trains x
     unfolding stood train_at
     stood_cell x = cell most_tracks (stood train v σ.trains) x
-        (λ f. cond-f _ _ (ne_eqb x v (λ z. let b = few_tracks_lem p R in omega arith)) ∙ beyond x f)
+        (λ f. cond_f _ _ (ne_eqb x v (λ z. let b = few_tracks_lem p R in omega arith)) ∙ beyond x f)
 
     stood_here : get_or (tab most_tracks (stood train v σ.trains)) v 0 ≡ train
     unfolding stood
-    stood_here = stood_cell v ∙ cond-t _ _ (eq-eqb v v refl)
+    stood_here = stood_cell v ∙ cond_t _ _ (eq-eqb v v refl)
 
     stood_other : (x : ℕ) → x ≢ v → get_or (tab most_tracks (stood train v σ.trains)) x 0 ≡ train_at σ x
     unfolding stood train_at
-    stood_other x d = stood_cell x ∙ cond-f _ _ (ne_eqb x v d)
+    stood_other x d = stood_cell x ∙ cond_f _ _ (ne_eqb x v d)
 
   module _ (u : ℕ) (trains : List ℕ) (end : (x : ℕ) → most_tracks ≤ x → get_or trains x 0 ≡ 0) where
     gone_cell : (x : ℕ) → get_or (tab most_tracks (gone u trains)) x 0 ≡ gone u trains x
@@ -203,11 +203,11 @@ module _ (p : Plan) (R : Readable p) (σ : State) (W : WellFormed p σ) where
 
     gone_here : get_or (tab most_tracks (gone u trains)) u 0 ≡ no_train
     unfolding gone
-    gone_here = gone_cell u ∙ cond-t _ _ (eq-eqb u u refl)
+    gone_here = gone_cell u ∙ cond_t _ _ (eq-eqb u u refl)
 
     gone_other : (x : ℕ) → x ≢ u → get_or (tab most_tracks (gone u trains)) x 0 ≡ get_or trains x 0
     unfolding gone
-    gone_other x d = gone_cell x ∙ cond-f _ _ (ne_eqb x u d)
+    gone_other x d = gone_cell x ∙ cond_f _ _ (ne_eqb x u d)
 
   -- the signal on the track left
   module _ (u : ℕ) where
@@ -221,11 +221,11 @@ module _ (p : Plan) (R : Readable p) (σ : State) (W : WellFormed p σ) where
 
     red_here : (s : ℕ) → StandsAt p u s → get_or (tab most_signals (reddened p u σ.signals)) s 0 ≡ red
     unfolding reddened
-    red_here s w = red_cell s ∙ cond-t _ _ ((stands_is p u s).1 w)
+    red_here s w = red_cell s ∙ cond_t _ _ ((stands_is p u s).1 w)
 
     red_other : (s : ℕ) → (StandsAt p u s → ⊥) → get_or (tab most_signals (reddened p u σ.signals)) s 0 ≡ shown_at σ s
     unfolding reddened shown_at
-    red_other s n = red_cell s ∙ cond-f _ _ (fails (stands_at p u s) (λ e. n ((stands_is p u s).0 e)))
+    red_other s n = red_cell s ∙ cond_f _ _ (fails (stands_at p u s) (λ e. n ((stands_is p u s).0 e)))
 
   -- Entered.
   pub after_entry_lem : (train u : ℕ) → u < length p.tracks → AfterEntry σ (after_deed p σ (Entered train u)) train u
@@ -275,7 +275,7 @@ module _ (p : Plan) (R : Readable p) (σ : State) (W : WellFormed p σ) where
       front = tab most_tracks (stood train v σ.trains)
 
       end : (x : ℕ) → most_tracks ≤ x → get_or front x 0 ≡ 0
-      end x f = get_d_beyond front x (rw (length-tab most_tracks (stood train v σ.trains)) f)
+      end x f = get_d_beyond front x (rw (length_tab most_tracks (stood train v σ.trains)) f)
 
   -- Left.
   pub after_leaving : (train u : ℕ) → AfterLeaving p σ (after_deed p σ (Left train u)) u

@@ -7,7 +7,7 @@ use native.Mathlib.Nat.{zero-mul, suc-mul, add_comm}
 use lib.ListN.{length, length-append}
 use Rattle.laws.specs.Tests.{Is}
 use Rattle.laws.specs.Lists.{All, joined}
-use Rattle.laws.specs.Tables.{tab, length-tab, getD-tab}
+use Rattle.laws.specs.Tables.{tab, length_tab, get_or_tab}
 use Rattle.plan.specs.declared.Track.{Track}
 use Rattle.plan.specs.declared.Release.{Release}
 use Rattle.plan.specs.Limits.{least_tracks, most_tracks, most_signals, most_routes, most_entries, least_path, most_path, most_clear, most_points, most_releases, track_size, release_size, route_size, entry_size, image_size}
@@ -46,12 +46,12 @@ all_tab ok zero f h = tt
 all_tab ok (suc n) f h = (h 0 (omega arith), all_tab ok n (λ k. f (suc k)) (λ i g. h (suc i) (omega arith)))
 
 within_tab : {A : Type 0} {ok : A → Type 0} (least n : ℕ) (f : ℕ → A) → least ≤ n → ((i : ℕ) → i < n → ok (f i)) → Within least n ok (tab n f)
-within_tab {ok} least n f h each = record { enough = rw (length-tab n f) h; few = rw (length-tab n f) (omega arith); each = all_tab ok n f each }
+within_tab {ok} least n f h each = record { enough = rw (length_tab n f) h; few = rw (length_tab n f) (omega arith); each = all_tab ok n f each }
 
 up_rises : (n : ℕ) → Rises (up_to n)
 up_rises n i h =
-    let g : i + 1 < n = rw (length-tab n (λ i. i)) at h in
-    rw (getD-tab n (λ i. i) i 0 (omega arith), getD-tab n (λ i. i) (i + 1) 0 g) (omega arith)
+    let g : i + 1 < n = rw (length_tab n (λ i. i)) at h in
+    rw (get_or_tab n (λ i. i) i 0 (omega arith), get_or_tab n (λ i. i) (i + 1) 0 g) (omega arith)
 
 map_tab : {A : Type 0} (g : A → ℕ) (n : ℕ) (f : ℕ → A) → map g (tab n f) ≡ tab n (λ i. g (f i))
 unfolding tab
@@ -62,18 +62,18 @@ up_within : (least n tracks : ℕ) → least ≤ n → n ≤ tracks → Within l
 up_within least n tracks h g = within_tab least n (λ i. i) h (λ i k. omega arith)
 
 tracks_long : length largest.tracks ≡ most_tracks
-tracks_long = length-tab most_tracks (λ i. facing)
+tracks_long = length_tab most_tracks (λ i. facing)
 
 all_points : (i : ℕ) → i < most_tracks → Is (is_point largest.tracks i)
 unfolding is_point point forks
-all_points i h = rw (getD-tab most_tracks (λ i. facing) i _ h)
+all_points i h = rw (get_or_tab most_tracks (λ i. facing) i _ h)
 
 release_readable : (i : ℕ) → i < most_releases → ReadableRelease largest.tracks (release i)
 release_readable i h = record { track = rw tracks_long (omega arith); point = all_points i (omega arith) }
 
 route_readable : ReadableRoute largest.tracks (length largest.signals) route
 route_readable = record {
-  start = rw (length-tab most_signals (λ i. i)) (omega arith);
+  start = rw (length_tab most_signals (λ i. i)) (omega arith);
   path = rw tracks_long (up_within least_path most_path most_tracks (omega arith) (omega arith));
   clear = rw tracks_long (up_within 0 most_clear most_tracks (omega arith) (omega arith));
   clear_rises = up_rises most_clear;
@@ -112,7 +112,7 @@ both_long w v = record { long = rw (length-append, w.long, v.long) }
 
 list_long : (n : ℕ) → Long (list_file (up_to n)) (1 + n)
 unfolding list_file
-list_long n = cons_long (record { long = length-tab n (λ i. i) })
+list_long n = cons_long (record { long = length_tab n (λ i. i) })
 
 module _ {A : Type 0} (file : A → List ℕ) (size : ℕ) where
   joined_long : (n : ℕ) (f : ℕ → A) → ((i : ℕ) → Long (file (f i)) size) → Long (joined file (tab n f)) (n * size)

@@ -13,11 +13,11 @@ unfoldable pub All {ℓ} : {A : Type ℓ} → (A → Type 0) → List A → Type
 All ok [] = Unit
 All ok (a ∷ l) = ok a × All ok l
 
-pub all-at {ℓ} : {A : Type ℓ} (ok : A → Type 0) (l : List A) (i : ℕ) (d : A) → All ok l → i < length l → ok (get_or l i d)
+pub all_at {ℓ} : {A : Type ℓ} (ok : A → Type 0) (l : List A) (i : ℕ) (d : A) → All ok l → i < length l → ok (get_or l i d)
 unfolding All
-all-at ok [] i d w h = absurd (not-suc-le-zero h)
-all-at ok (a ∷ l) zero d w h = w.0
-all-at ok (a ∷ l) (suc i) d w h = all-at ok l i d w.1 (omega arith)
+all_at ok [] i d w h = absurd (not-suc-le-zero h)
+all_at ok (a ∷ l) zero d w h = w.0
+all_at ok (a ∷ l) (suc i) d w h = all_at ok l i d w.1 (omega arith)
 
 -- What holds of everything holds of each element, and what follows from it too.
 

@@ -125,15 +125,15 @@ pub cond_ind : {A : Type 0} (Q : A → Type 0) {x y : A} (b : Bool) → (b ≡ t
 cond_ind Q true h k = h refl
 cond_ind Q false h k = k refl
 
-pub unless-ind {ℓ κ} : {A : Type ℓ} (Q : A → Type κ) (o : Found) (f : ℕ → A) (y : A) → ((x : ℕ) → o ≡ At x → Q (f x)) → (o ≡ Nothing → Q y) → Q (unless o f y)
+pub unless_ind {ℓ κ} : {A : Type ℓ} (Q : A → Type κ) (o : Found) (f : ℕ → A) (y : A) → ((x : ℕ) → o ≡ At x → Q (f x)) → (o ≡ Nothing → Q y) → Q (unless o f y)
 unfolding unless
-unless-ind Q (At x) f y h k = h x refl
-unless-ind Q Nothing f y h k = k refl
+unless_ind Q (At x) f y h k = h x refl
+unless_ind Q Nothing f y h k = k refl
 
-pub unless-at {ℓ} : {A : Type ℓ} {o : Found} {x : ℕ} (f : ℕ → A) (y : A) → o ≡ At x → unless o f y ≡ f x
+pub unless_at {ℓ} : {A : Type ℓ} {o : Found} {x : ℕ} (f : ℕ → A) (y : A) → o ≡ At x → unless o f y ≡ f x
 unfolding unless
-unless-at f y e = rw e
+unless_at f y e = rw e
 
-pub unless-nothing {ℓ} : {A : Type ℓ} {o : Found} (f : ℕ → A) (y : A) → o ≡ Nothing → unless o f y ≡ y
+pub unless_nothing {ℓ} : {A : Type ℓ} {o : Found} (f : ℕ → A) (y : A) → o ≡ Nothing → unless o f y ≡ y
 unfolding unless
-unless-nothing f y e = rw e
+unless_nothing f y e = rw e

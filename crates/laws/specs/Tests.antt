@@ -63,8 +63,8 @@ not_f false e = clash {b = true} refl e
 pub not_i : (b : Bool) → b ≡ false → Is (not b)
 not_i b e = rw e
 
-pub cond-t {ℓ} : {A : Type ℓ} {b : Bool} (x y : A) → b ≡ true → cond b x y ≡ x
-cond-t x y e = rw e
+pub cond_t {ℓ} : {A : Type ℓ} {b : Bool} (x y : A) → b ≡ true → cond b x y ≡ x
+cond_t x y e = rw e
 
-pub cond-f {ℓ} : {A : Type ℓ} {b : Bool} (x y : A) → b ≡ false → cond b x y ≡ y
-cond-f x y e = rw e
+pub cond_f {ℓ} : {A : Type ℓ} {b : Bool} (x y : A) → b ≡ false → cond b x y ≡ y
+cond_f x y e = rw e

@@ -7,7 +7,7 @@ use native.Mathlib.Omega.{arith}
 use lib.ListN.{length, replicate, length-append, length-replicate}
 use lib.Seq.{get_or-append_seam, get_or-append-add, get_or_at, drop_at, take-append_seam}
 use Rattle.laws.specs.Lists.{All, joined, all_every, all_map}
-use Rattle.laws.specs.Tables.{tab, tab-cong}
+use Rattle.laws.specs.Tables.{tab, tab_cong}
 use Rattle.plan.specs.declared.Track.{Track}
 use Rattle.plan.specs.declared.Release.{Release}
 use Rattle.plan.specs.Limits.{most_tracks, most_signals, most_routes, most_entries, most_path, most_clear, most_points, most_releases, track_size, release_size, path_at, clear_at, normal_at, reverse_at, releases_at, route_size, entry_clear_at, entry_size, tracks_at, signals_at, routes_at, entries_at, image_size}
@@ -48,7 +48,7 @@ module _ {A : Type 0} (thing : List ℕ → ℕ → A) (size : ℕ) (image : A �
   joined_shown (a ∷ l) s before after =
       ap₂ ◌∷◌
       (rw (mul-zero, add-zero, append_assoc) (s.0.shown before (joined image l ++ after)))
-      (tab-cong (length l) _ _ (λ k h. place k) ∙ joined_shown l s.1 (before ++ image a) after)
+      (tab_cong (length l) _ _ (λ k h. place k) ∙ joined_shown l s.1 (before ++ image a) after)
     where
       place : (k : ℕ) → thing (before ++ ((image a ++ joined image l) ++ after)) (length before + size * suc k) ≡ thing ((before ++ image a) ++ (joined image l ++ after)) (length (before ++ image a) + size * k)
       place k = let e : length before + size * suc k ≡ length (before ++ image a) + size * k = rw (length-append, s.0.long, mul-suc) (omega arith) in rw e (simp append_assoc)

@@ -12,7 +12,7 @@ use lib.Dec.{ltb}
 use native.Mathlib.Numerals.{add-one}
 use borrow.Author.Tests.{lt-ltb, le-ltb, ltb-true, ltb-false}
 use Rattle.laws.specs.Tests.{split}
-use Rattle.laws.specs.Tables.{tab, length-tab, getD-tab, tab-cong}
+use Rattle.laws.specs.Tables.{tab, length_tab, get_or_tab, tab_cong}
 use Rattle.laws.specs.Lists.{joined}
 use Rattle.plan.specs.declared.Track.{Track}
 use Rattle.plan.specs.Limits.{most_tracks, most_signals, most_routes, most_entries, track_size, release_size, route_size, entry_size, tracks_at, signals_at, routes_at, entries_at, image_size}
@@ -39,11 +39,11 @@ module _ (image : List ℕ) (at most : ℕ) where
 module _ {A : Type 0} (thing : List ℕ → ℕ → A) (size : ℕ) (image : List ℕ) (at most : ℕ) where
   pub things_length : length (things_in thing size image at most) ≡ count_in image at most
   unfolding things_in
-  things_length = length-tab (count_in image at most) (λ i. thing image (at + 1 + size * i))
+  things_length = length_tab (count_in image at most) (λ i. thing image (at + 1 + size * i))
 
   pub things_at : (i : ℕ) (none : A) → i < count_in image at most → get_or (things_in thing size image at most) i none ≡ thing image (at + 1 + size * i)
   unfolding things_in
-  things_at i none h = getD-tab (count_in image at most) (λ i. thing image (at + 1 + size * i)) i none h
+  things_at i none h = get_or_tab (count_in image at most) (λ i. thing image (at + 1 + size * i)) i none h
 
 -- A list, as the part of the image that the code takes.
 pub list_part_lem : (image : List ℕ) (at most : ℕ) {n : ℕ} → n ≡ count_in image at most → take (at + 1 + n - (at + 1)) (drop (at + 1) image) ≡ list_in image at most
@@ -60,7 +60,7 @@ module _ {A : Type 0} (thing : List ℕ → ℕ → A) (size : ℕ) (file : A �
       let e : size * suc n ≡ size + size * n = mul-suc size n ∙ omega arith in
       let z : base + size * 0 ≡ base = rw mul-zero (omega arith) in
       let t : tab n (λ k. thing image (base + size * suc k)) ≡ tab n (λ k. thing image (base + size + size * k)) =
-      tab-cong n _ _ (λ k hk. ap (thing image) (rw mul-suc (omega arith))) in
+      tab_cong n _ _ (λ k hk. ap (thing image) (rw mul-suc (omega arith))) in
       rw (e, take-add, one base (omega arith), drop-drop, rows n (base + size) (omega arith), t, z)
 
   pub rows_part : (at most : ℕ) {n : ℕ} → at + 1 + size * most ≤ length image → n ≡ count_in image at most

@@ -8,7 +8,7 @@ use native.Mathlib.Omega.{arith}
 use lib.ListN.{length, get_or}
 use lib.Dec.{eqb, ltb}
 use borrow.Author.Tests.{eqb-false, ne_eqb, ltb-true, lt-ltb}
-use Rattle.laws.specs.Tests.{Is, split, clash, below?, and_l, and_r, and_i, or_e, or_l, or_r, not_t, not_f, not_i, cond-t, cond-f, fails}
+use Rattle.laws.specs.Tests.{Is, split, clash, below?, and_l, and_r, and_i, or_e, or_l, or_r, not_t, not_f, not_i, cond_t, cond_f, fails}
 use Rattle.laws.specs.Lists.{All, all_of, has, In, has_in, in_has, all_of_in, in_all_of, all_of_at, all_of_all, different}
 use Rattle.laws.specs.Search.{all_below, all_below_at, all_below_all}
 use Rattle.plan.specs.declared.Release.{Release}
@@ -89,11 +89,11 @@ module _ (p : Plan) where
       free e u l = allowed v u (not_t (forbidden p v u) (all_below_at (length p.tracks) (λ u. not (forbidden p v u)) e u (leads_track p u v l))) ((leads_is p u v).1 l)
 
       only : Is (all_below (length p.tracks) (λ u. not (forbidden p v u))) → (u : ℕ) → Leads p u v → Is (legged (track_of p v)) → Is (is_leg p v u)
-      only e u l t = not_f (is_leg p v u) (sym (cond-t (not (is_leg p v u)) (not (none_leads p v u)) t) ∙ free e u l)
+      only e u l t = not_f (is_leg p v u) (sym (cond_t (not (is_leg p v u)) (not (none_leads p v u)) t) ∙ free e u l)
 
       -- two tracks that lead to v, where v is no trailing point
       none : Is (all_below (length p.tracks) (λ u. not (forbidden p v u))) → (u w : ℕ) → Leads p u v → Leads p w v → legged (track_of p v) ≡ false → w < u → ⊥
-      none e u w l m t h = (none_leads_is p v u).0 (not_f (none_leads p v u) (sym (cond-f (not (is_leg p v u)) (not (none_leads p v u)) t) ∙ free e u l)) w h m
+      none e u w l m t h = (none_leads_is p v u).0 (not_f (none_leads p v u) (sym (cond_f (not (is_leg p v u)) (not (none_leads p v u)) t) ∙ free e u l)) w h m
 
       other : (u w : ℕ) → u ≢ w → (a b : Bool) → u ≡ leg (track_of p v) a → w ≡ leg (track_of p v) b → (lie : Bool) × (u ≡ leg (track_of p v) lie) × (w ≡ leg (track_of p v) (not lie))
       other u w n false true x y = (false, x, y)

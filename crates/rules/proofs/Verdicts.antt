@@ -10,7 +10,7 @@ use native.Mathlib.Nat.{not-suc-le-zero}
 use lib.ListN.{length, get_or, get_or-eq_default}
 use Rattle.laws.specs.Tests.{fails, clash, same?, below?, not_t, not_f}
 use Rattle.laws.specs.Lists.{All, any_of, has}
-use Rattle.laws.specs.Search.{lowest, lowest_from, lowest_at, lowest_none, unless, unless-ind}
+use Rattle.laws.specs.Search.{lowest, lowest_from, lowest_at, lowest_none, unless, unless_ind}
 use Rattle.plan.specs.Records.{Plan, route_of, entry_of}
 use Rattle.plan.specs.Routes.{path_length}
 use Rattle.rules.specs.declared.Verdict.{Verdict}
@@ -38,7 +38,7 @@ Finds n l (Broken k i) = (j : ℕ) × (k ≡ n + j) × First l j i
 finds : (n : ℕ) (l : List Rule) → All Tied l → Finds n l (first_broken n l)
 unfolding All first_broken lowest_broken
 finds n [] t = λ k i h. absurd (not-suc-le-zero h)
-finds n (rule ∷ l) (t, ts) = unless-ind (Finds n (rule ∷ l)) _ _ _
+finds n (rule ∷ l) (t, ts) = unless_ind (Finds n (rule ∷ l)) _ _ _
     (λ i e. let w = lowest_at rule.rows (λ i. not (rule.test i)) e in (
       0,
       omega arith,

@@ -1,7 +1,7 @@
 -- `act::act_holds`: case by case, what the walks leave is the table of the state after; an entry drops nothing.
 use mathlib.Core.Path.{ap, ◌∙◌}
 use lib.ListN.{length}
-use Rattle.laws.specs.Tables.{length-tab}
+use Rattle.laws.specs.Tables.{length_tab}
 use Rattle.act.proofs.Named.{granted_normal, granted_reverse}
 use Rattle.act.proofs.Acts.{holds_kept, granted_holds, cancelled_holds, moved_holds}
 use Rattle.act.proofs.act_holds.Goals as goal
@@ -15,7 +15,7 @@ pub take-requires-in-Granted : goal.take-requires-in-Granted
 take-requires-in-Granted c =
     granted_reverse _ _ c.requires.0 c.in-Granted.is
     c.take.new.holds
-    (ap length c.take.ensures ∙ length-tab _ _ ∙ c.requires.1) c.reverse_of.ensures
+    (ap length c.take.ensures ∙ length_tab _ _ ∙ c.requires.1) c.reverse_of.ensures
 
 pub returns-in-Granted : goal.returns-in-Granted
 returns-in-Granted c =

@@ -1,7 +1,7 @@
 -- `act::act_lies`: the normal list turned, then the reverse list, is the lie in the end; any other answer turns nothing.
 use mathlib.Core.Path.{ap, ◌∙◌}
 use lib.ListN.{length}
-use Rattle.laws.specs.Tables.{length-tab}
+use Rattle.laws.specs.Tables.{length_tab}
 use Rattle.act.proofs.Named.{granted_normal, granted_reverse}
 use Rattle.act.proofs.Acts.{lies_kept, granted_lies}
 use Rattle.act.proofs.act_lies.Goals as goal
@@ -18,7 +18,7 @@ pub turn-requires-2 : goal.turn-requires-2
 turn-requires-2 c =
     granted_reverse _ _ c.requires.0 c.in-Granted.is
     c.turn.new.lies
-    (ap length c.turn.ensures ∙ length-tab _ _ ∙ c.requires.1) c.reverse_of.ensures
+    (ap length c.turn.ensures ∙ length_tab _ _ ∙ c.requires.1) c.reverse_of.ensures
 
 pub returns : goal.returns
 returns c =

@@ -2,7 +2,7 @@
 use mathlib.Core.Path.{sym, ap, ◌∙◌}
 use native.Mathlib.Omega.{arith}
 use lib.ListN.{length, length-set}
-use Rattle.laws.specs.Lists.{all-at}
+use Rattle.laws.specs.Lists.{all_at}
 use Rattle.laws.specs.Sets.{excluding_excluding}
 use Rattle.act.specs.Cells.{freed}
 use Rattle.act.proofs.Walks.{writes_tab, released_end, released_hit, released_miss}
@@ -10,10 +10,10 @@ use Rattle.act.proofs.give_back.Goals as goal
 use Rattle.act.proofs.give_back.Goals.{then-track-to, else-track-to}
 
 pub offset_bounds-holds-point : goal.offset_bounds-holds-point
-offset_bounds-holds-point c = omega (arith, all-at _ _ _ 0 c.requires c.loop-i-test.true, c.wide-point.ensures)
+offset_bounds-holds-point c = omega (arith, all_at _ _ _ 0 c.requires c.loop-i-test.true, c.wide-point.ensures)
 
 pub bounds-holds-point : goal.bounds-holds-point
-bounds-holds-point c = omega (arith, all-at _ _ _ 0 c.requires c.loop-i-test.true, c.wide-point.ensures)
+bounds-holds-point c = omega (arith, all_at _ _ _ 0 c.requires c.loop-i-test.true, c.wide-point.ensures)
 
 pub loop-i-preserved : goal.loop-i-preserved
 loop-i-preserved c =
@@ -33,7 +33,7 @@ loop-i-preserved c =
     ]
 
 pub bounds-holds-point-then-track-to : goal.bounds-holds-point-then-track-to
-bounds-holds-point-then-track-to c = omega (arith, all-at _ _ _ 0 c.requires c.loop-i-test.true, c.wide-point.ensures)
+bounds-holds-point-then-track-to c = omega (arith, all_at _ _ _ 0 c.requires c.loop-i-test.true, c.wide-point.ensures)
 
 pub shape_of-holds : goal.shape_of-holds
 shape_of-holds c = c.loop-i.invariant.1

@@ -2,7 +2,7 @@
 use mathlib.Core.Path.{sym, ◌∙◌}
 use native.Mathlib.Omega.{arith}
 use lib.ListN.{length-set}
-use Rattle.laws.specs.Lists.{all-at}
+use Rattle.laws.specs.Lists.{all_at}
 use Rattle.state.proofs.Holds.{adding_adding}
 use Rattle.act.specs.Cells.{held}
 use Rattle.act.proofs.Walks.{writes_step, writes_end, writes_tab}
@@ -10,13 +10,13 @@ use borrow.Author.Rules.{rules}
 use Rattle.act.proofs.take.Goals as goal
 
 pub offset_bounds-holds-point : goal.offset_bounds-holds-point
-offset_bounds-holds-point c = omega (arith, all-at _ _ _ 0 c.requires c.loop-i-test.true, c.wide-point.ensures)
+offset_bounds-holds-point c = omega (arith, all_at _ _ _ 0 c.requires c.loop-i-test.true, c.wide-point.ensures)
 
 pub bounds-holds-point : goal.bounds-holds-point
-bounds-holds-point c = omega (arith, all-at _ _ _ 0 c.requires c.loop-i-test.true, c.wide-point.ensures)
+bounds-holds-point c = omega (arith, all_at _ _ _ 0 c.requires c.loop-i-test.true, c.wide-point.ensures)
 
 pub offset_bounds-holds-point-in-loop-i : goal.offset_bounds-holds-point-in-loop-i
-offset_bounds-holds-point-in-loop-i c = omega (arith, all-at _ _ _ 0 c.requires c.loop-i-test.true, c.wide-point.ensures)
+offset_bounds-holds-point-in-loop-i c = omega (arith, all_at _ _ _ 0 c.requires c.loop-i-test.true, c.wide-point.ensures)
 
 pub loop-i-preserved : goal.loop-i-preserved
 loop-i-preserved c =
@@ -30,4 +30,4 @@ unfolding held
 returns c = sym (writes_end _ _ _ _ c.loop-i-test.false) ∙ sym c.loop-i.invariant.2 ∙ writes_tab _ (λ x. adding_adding x _) _ _
 
 pub bounds-holds-point-in-loop-i : goal.bounds-holds-point-in-loop-i
-bounds-holds-point-in-loop-i c = omega (arith, all-at _ _ _ 0 c.requires c.loop-i-test.true, c.wide-point.ensures)
+bounds-holds-point-in-loop-i c = omega (arith, all_at _ _ _ 0 c.requires c.loop-i-test.true, c.wide-point.ensures)

@@ -2,14 +2,14 @@
 use mathlib.Core.Path.{refl, sym, ◌∙◌}
 use native.Mathlib.Omega.{arith}
 use lib.ListN.{length-set}
-use Rattle.laws.specs.Lists.{all-at}
+use Rattle.laws.specs.Lists.{all_at}
 use Rattle.act.specs.Cells.{turned}
 use Rattle.act.proofs.Walks.{writes_step, writes_end, writes_tab}
 use borrow.Author.Rules.{rules}
 use Rattle.act.proofs.turn.Goals as goal
 
 pub bounds-lies-point : goal.bounds-lies-point
-bounds-lies-point c = omega (arith, all-at _ _ _ 0 c.requires c.loop-i-test.true, c.wide-point.ensures)
+bounds-lies-point c = omega (arith, all_at _ _ _ 0 c.requires c.loop-i-test.true, c.wide-point.ensures)
 
 pub loop-i-preserved : goal.loop-i-preserved
 loop-i-preserved c =

@@ -1,7 +1,7 @@
 -- `tests::busy_in`: the first of the list that has a train, and the train.
 use native.Mathlib.Omega.{arith}
 use mathlib.Core.Path.{refl}
-use Rattle.laws.specs.Lists.{all-at}
+use Rattle.laws.specs.Lists.{all_at}
 use Rattle.decide.proofs.Along.{look_met, look_on, look_over}
 use Rattle.decide.proofs.tests.busy_in.Goals as goal
 
@@ -23,4 +23,4 @@ loop-place-preserved c =
 pub train_at-train-requires : goal.train_at-train-requires
 train_at-train-requires c =
     let asked = c.requires in
-    omega (arith, c.wide-track.ensures, all-at _ _ _ 0 asked c.loop-place-test.true)
+    omega (arith, c.wide-track.ensures, all_at _ _ _ 0 asked c.loop-place-test.true)

@@ -1,7 +1,7 @@
 -- `tests::held_in`: the first of the list that is held and would be turned.
 use native.Mathlib.Omega.{arith}
 use mathlib.Core.Path.{refl, sym, ◌∙◌}
-use Rattle.laws.specs.Lists.{all-at}
+use Rattle.laws.specs.Lists.{all_at}
 use Rattle.decide.proofs.Along.{walk_met, walk_on, walk_over}
 use Rattle.decide.proofs.tests.held_in.Goals as goal
 
@@ -23,4 +23,4 @@ loop-i-preserved c =
 pub held_other-requires : goal.held_other-requires
 held_other-requires c =
     let asked = c.requires in
-    omega (arith, c.wide-point.ensures, all-at _ _ _ 0 asked c.loop-i-test.true)
+    omega (arith, c.wide-point.ensures, all_at _ _ _ 0 asked c.loop-i-test.true)

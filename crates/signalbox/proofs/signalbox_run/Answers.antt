@@ -1,0 +1,53 @@
+-- `signalbox::signalbox_run`: something is in the way, or the codes so far are those of the answers so far.
+use mathlib.Core.Path.{sym, ◌∙◌}
+use Prim.Native.Nat.{◌-◌}
+use native.Mathlib.Omega.{arith}
+use lib.ListN.{length}
+use Rattle.reading.specs.Reading.{parse}
+use Rattle.state.specs.Cells.{state_in}
+use Rattle.events.specs.Events.{events_of}
+use Rattle.events.proofs.Pieces.{events_length, events_at}
+use Rattle.signalbox.specs.Face.{code_of, run_reason}
+use Rattle.signalbox.proofs.Faced.{Ready, is_ready}
+use Rattle.signalbox.proofs.Playing.{run_stopped, run_crowded, run_free, short, wrote_code, played_none, Playing, playing_start, playing_readable, playing_same, playing_room, playing_there, playing_turn, playing_end}
+use borrow.Author.Rules.{rules}
+use Rattle.signalbox.proofs.signalbox_run.Goals as goal
+
+pub returns-then-reason-ne0 : goal.returns-then-reason-ne0
+returns-then-reason-ne0 c =
+    played_none code_of c.args.file.now _ _ _ (run_stopped _ _ _ _ c.ready-reason.ensures.0 c.if-reason-ne0.true) c.if-reason-ne0.true
+
+pub returns-then-answers-count : goal.returns-then-answers-count
+returns-then-answers-count c =
+    let is_free : Ready c.args.file.now c.ready-reason.new.image (state_in c.args.cells.now c.args.holds.now) = is_ready _ c.ready-reason.ensures c.if-reason-ne0.false in
+    played_none code_of c.args.file.now _ _ _ (run_crowded _ _ _ _ is_free.free (rw c.event_count-count.ensures at c.if-answers-count.true)) (λ z. omega arith)
+
+pub loop-i-init : goal.loop-i-init
+loop-i-init c =
+    let is_free : Ready c.args.file.now c.ready-reason.new.image (state_in c.args.cells.now c.args.holds.now) = is_ready _ c.ready-reason.ensures c.if-reason-ne0.false in
+    let n = c.event_count-count.ensures in
+    playing_start is_free (run_free _ _ _ _ is_free.free (rw n at c.if-answers-count.false)) n (omega (arith, c.if-answers-count.false))
+
+pub overflow_mul-i : goal.overflow_mul-i
+overflow_mul-i c =
+    omega (arith, playing_there c.loop-i.invariant c.loop-i-test.true, events_length c.args.events.now, c.good.1.1.1.0.1)
+
+pub play-answer-requires : goal.play-answer-requires
+play-answer-requires c = playing_readable c.loop-i.invariant
+
+pub offset_bounds-answers-i : goal.offset_bounds-answers-i
+offset_bounds-answers-i c =
+    omega (arith, playing_room c.loop-i.invariant c.loop-i-test.true, c.good.1.1.1.1.0.1)
+
+pub bounds-answers-i : goal.bounds-answers-i
+bounds-answers-i c = omega (arith, playing_room c.loop-i.invariant c.loop-i-test.true)
+
+pub loop-i-preserved : goal.loop-i-preserved
+loop-i-preserved c =
+    let l = c.loop-i.invariant in
+    let h = c.loop-i-test.true in
+    playing_turn l h (c.event_at.ensures ∙ sym (events_at _ _ (playing_there l h))) short c.play-answer.ensures.0 c.play-answer.ensures.1
+    (wrote_code _ c.answer_code.ensures (playing_room l h))
+
+pub returns : goal.returns
+returns c = playing_end c.loop-i.invariant c.loop-i-test.false
