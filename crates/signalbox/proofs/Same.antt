@@ -24,7 +24,7 @@ same_event a b c = refl
 codes_length : (p : Plan) (σ : State) (events : List Event) → length (joined code_of (history ours p σ events)) ≡ length events
 unfolding joined history
 codes_length p σ [] = refl
-codes_length p σ (e ∷ events) = ap suc (codes_length p _ events)
+codes_length p σ (e ∷ events) = ap suc (codes_length p (ours.next p σ e) events)
 
 module _ (p : Plan) (at : ℕ) (rest : List ℕ) (σ : State) where
   pub same_code : (event : Event) → joined code_of (answers_of (got p at rest) σ (event ∷ [])) ≡ step_code (got p at rest) σ event ∷ []

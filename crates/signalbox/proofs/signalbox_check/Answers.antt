@@ -1,6 +1,5 @@
 -- `signalbox::signalbox_check`: what reading or checking answers, as its code.
 use Rattle.signalbox.proofs.Faced.{check_refused, was_read, checked}
-use borrow.Author.Rules.{rules}
 use Rattle.signalbox.proofs.signalbox_check.Goals as goal
 
 pub returns-in-Refused : goal.returns-in-Refused

@@ -1,20 +1,13 @@
 -- `signalbox::signalbox_feed`: something is in the way, or the lines so far are those of the answers so far; then what is left over is kept.
-use mathlib.Core.Path.{refl, sym, ◌∙◌}
 use mathlib.Core.List.{◌++◌}
 use Prim.Native.Nat.{◌-◌}
-use native.Mathlib.Omega.{arith}
 use lib.ListN.{length}
 use Rattle.reading.specs.Reading.{parse}
 use Rattle.state.specs.Cells.{state_in}
 use Rattle.events.specs.Events.{whole_events, unfinished_in}
 use Rattle.lines.specs.Lines.{answer_line, line_most}
-use Rattle.lines.proofs.Most.{answer_most}
-use Rattle.demands.specs.Session.{fed, fed_lines}
 use Rattle.signalbox.specs.Face.{line_reason}
-use Rattle.signalbox.proofs.Faced.{Ready, is_ready, some_ill}
-use Rattle.signalbox.proofs.Playing.{line_stopped, line_long, line_crowded, line_free, Playing, playing_start, playing_readable, playing_same, playing_room, playing_there, playing_turn}
-use Rattle.signalbox.proofs.Feeding.{answered_none, answered_all, lines_room}
-use borrow.Author.Rules.{rules}
+use Rattle.signalbox.proofs.Playing.{Playing}
 use Rattle.signalbox.proofs.signalbox_feed.Given as goal
 
 abbrev pub invariant-loop-i : goal.invariant-loop-i

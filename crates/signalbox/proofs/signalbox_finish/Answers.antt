@@ -10,7 +10,6 @@ use Rattle.demands.specs.Session.{ended, end_lines}
 use Rattle.signalbox.proofs.Faced.{Ready, readable_image, is_ready, some_ill}
 use Rattle.signalbox.proofs.Playing.{line_stopped, line_long, line_crowded, line_free, playing_start, playing_turn}
 use Rattle.signalbox.proofs.Feeding.{answered_none, answered_all, lines_room, none_unfinished, one_unfinished, unfinished_unknown}
-use borrow.Author.Rules.{rules}
 use Rattle.signalbox.proofs.signalbox_finish.Goals as goal
 
 pub returns-then-reason-ne0 : goal.returns-then-reason-ne0

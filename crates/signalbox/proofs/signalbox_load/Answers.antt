@@ -1,6 +1,5 @@
 -- `signalbox::signalbox_load`: what reading answers, as its code, and what it leaves.
 use Rattle.signalbox.proofs.Faced.{read_refused, was_read, read_good}
-use borrow.Author.Rules.{rules}
 use Rattle.signalbox.proofs.signalbox_load.Goals as goal
 
 pub returns-in-Refused : goal.returns-in-Refused

@@ -1,7 +1,6 @@
 -- `signalbox::signalbox_open`: the line of what reading or checking finds.
 use Rattle.signalbox.proofs.Faced.{unread, was_read}
 use Rattle.signalbox.proofs.Opening.{no_room_lem, opened_form, opened_plan}
-use borrow.Author.Rules.{rules}
 use Rattle.signalbox.proofs.signalbox_open.Goals as goal
 
 pub returns-then-out-lt1 : goal.returns-then-out-lt1

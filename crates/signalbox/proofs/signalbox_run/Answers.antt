@@ -1,16 +1,11 @@
 -- `signalbox::signalbox_run`: something is in the way, or the codes so far are those of the answers so far.
 use mathlib.Core.Path.{sym, ◌∙◌}
-use Prim.Native.Nat.{◌-◌}
 use native.Mathlib.Omega.{arith}
-use lib.ListN.{length}
-use Rattle.reading.specs.Reading.{parse}
 use Rattle.state.specs.Cells.{state_in}
-use Rattle.events.specs.Events.{events_of}
 use Rattle.events.proofs.Pieces.{events_length, events_at}
-use Rattle.signalbox.specs.Face.{code_of, run_reason}
+use Rattle.signalbox.specs.Face.{code_of}
 use Rattle.signalbox.proofs.Faced.{Ready, is_ready}
-use Rattle.signalbox.proofs.Playing.{run_stopped, run_crowded, run_free, short, wrote_code, played_none, Playing, playing_start, playing_readable, playing_same, playing_room, playing_there, playing_turn, playing_end}
-use borrow.Author.Rules.{rules}
+use Rattle.signalbox.proofs.Playing.{run_stopped, run_crowded, run_free, short, wrote_code, played_none, playing_start, playing_readable, playing_room, playing_there, playing_turn, playing_end}
 use Rattle.signalbox.proofs.signalbox_run.Goals as goal
 
 pub returns-then-reason-ne0 : goal.returns-then-reason-ne0
@@ -30,14 +25,14 @@ loop-i-init c =
 
 pub overflow_mul-i : goal.overflow_mul-i
 overflow_mul-i c =
-    omega (arith, playing_there c.loop-i.invariant c.loop-i-test.true, events_length c.args.events.now, c.good.1.1.1.0.1)
+    omega (arith, playing_there c.loop-i.invariant c.loop-i-test.true, events_length c.args.events.now)
 
 pub play-answer-requires : goal.play-answer-requires
 play-answer-requires c = playing_readable c.loop-i.invariant
 
 pub offset_bounds-answers-i : goal.offset_bounds-answers-i
 offset_bounds-answers-i c =
-    omega (arith, playing_room c.loop-i.invariant c.loop-i-test.true, c.good.1.1.1.1.0.1)
+    omega (arith, playing_room c.loop-i.invariant c.loop-i-test.true)
 
 pub bounds-answers-i : goal.bounds-answers-i
 bounds-answers-i c = omega (arith, playing_room c.loop-i.invariant c.loop-i-test.true)

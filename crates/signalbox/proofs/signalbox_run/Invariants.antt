@@ -1,16 +1,11 @@
 -- `signalbox::signalbox_run`: something is in the way, or the codes so far are those of the answers so far.
-use mathlib.Core.Path.{sym, ◌∙◌}
 use Prim.Native.Nat.{◌-◌}
-use native.Mathlib.Omega.{arith}
 use lib.ListN.{length}
 use Rattle.reading.specs.Reading.{parse}
 use Rattle.state.specs.Cells.{state_in}
 use Rattle.events.specs.Events.{events_of}
-use Rattle.events.proofs.Pieces.{events_length, events_at}
 use Rattle.signalbox.specs.Face.{code_of, run_reason}
-use Rattle.signalbox.proofs.Faced.{Ready, is_ready}
-use Rattle.signalbox.proofs.Playing.{run_stopped, run_crowded, run_free, short, wrote_code, played_none, Playing, playing_start, playing_readable, playing_same, playing_room, playing_there, playing_turn, playing_end}
-use borrow.Author.Rules.{rules}
+use Rattle.signalbox.proofs.Playing.{Playing}
 use Rattle.signalbox.proofs.signalbox_run.Given as goal
 
 abbrev pub invariant-loop-i : goal.invariant-loop-i

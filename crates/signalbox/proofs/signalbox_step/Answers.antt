@@ -2,7 +2,6 @@
 use Rattle.state.specs.Cells.{state_in}
 use Rattle.events.specs.Events.{first_event}
 use Rattle.signalbox.proofs.Faced.{Ready, readable_image, is_ready, step_stopped, stepped}
-use borrow.Author.Rules.{rules}
 use Rattle.signalbox.proofs.signalbox_step.Goals as goal
 
 pub returns-then-reason-ne0 : goal.returns-then-reason-ne0

@@ -1,5 +1,4 @@
 -- `signalbox::said::say`: what was played is what is written.
-use borrow.Author.Rules.{rules}
 use Rattle.signalbox.proofs.said.say.Goals as goal
 
 pub returns : goal.returns
