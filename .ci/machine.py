@@ -4,7 +4,7 @@
 # emulator. A machine that is neither fails.
 # machine.py: installs what is missing for that, by apt-get, or fails in a line; on x86-64 it does nothing.
 # machine.py build, machine.py boxed: the words, from second/, that build the second program with the box, and those that run it; machine.py bench: a
-# path, from there, by which target/bin/bench runs.
+# path, from there, by which crates/bench/out/bench runs.
 # machine.py wrap PROGRAM: puts a script in its place that runs it.
 import os
 import shlex
@@ -130,9 +130,9 @@ def boxed():
 
 def bench():
     if not EMULATED:
-        return ['../target/bin/bench']
+        return ['../crates/bench/out/bench']
     (top / 'second/target').mkdir(exist_ok=True)
-    wraps(top / 'target/bin/bench', top / 'second/target/bench')
+    wraps(top / 'crates/bench/out/bench', top / 'second/target/bench')
     return ['./target/bench']
 
 

@@ -10,13 +10,13 @@ def stripped(text):
 
 def names_in(text):
     """The names of a text: what stands between spaces, brackets, commas and dots."""
-    return re.findall(r'[^\s(){},;.⌜⌝«»]+', text)
+    return re.findall(r'[^\s(){},;.«»]+', text)
 
 
 def has(names, name):
-    """Whether a text with these names uses a name: itself, or each sign of one that is written between its arguments, as _≡_."""
-    signs = [sign for sign in name.split('_') if sign]
-    return name in names or name.startswith('_') | name.endswith('_') and all(sign in names for sign in signs)
+    """Whether a text with these names uses a name: itself, or each sign of one that is written between its arguments, as ◌≡◌."""
+    signs = [sign for sign in name.split('◌') if sign]
+    return name in names or '◌' in name and all(sign in names for sign in signs)
 
 
 class Use:
@@ -55,18 +55,18 @@ def taken_by_code(text):
 
 
 def parted(text):
-    """The clauses of a source file, and its code without them and without what it takes."""
+    """The clauses of a source file, and its code without them, every place where it was."""
     clauses, code, at = '', '', 0
-    for m in re.finditer(r'\b(?:requires|ensures)\s*(?=\{)', text):
+    for m in re.finditer(r'\b(?:requires|ensures)\b[^{;]*(?=\{)', text):
         end = closing(text, m.end())
-        clauses += text[m.end():end] + '\n'
-        code += text[at:m.start()]
+        clauses += re.sub(r'[^\n]', ' ', text[at:m.end()]) + text[m.end():end]
+        code += text[at:m.start()] + re.sub(r'[^\n]', ' ', text[m.start():end])
         at = end
-    return clauses, re.sub(r'(?m)^use\s+[^;]+;', '', code + text[at:])
+    return clauses, code + text[at:]
 
 
 class Source:
-    """A file: what it takes, and its text beside that. Of a source file the text is its contracts, and the names of the code stand apart."""
+    """A file: what it takes, and its text beside that. Of a source file the text is its contracts; what runs stands apart, and so do its names."""
 
     def __init__(self, root, file):
         self.place = file.relative_to(root).as_posix()
@@ -76,8 +76,8 @@ class Source:
         if self.code:
             self.uses, rest = taken(r'(?m)^ghost use\s+([^;{]*?)(?:\.\{([^}]*)\}|\s+as\s+(\S+))?\s*;', self.text)
             self.uses += taken_by_code(rest)
-            self.body, code = parted(rest)
-            self.code_names = set(re.findall(r'\w+', code))
+            self.body, self.run = parted(rest)
+            self.code_names = set(re.findall(r'\w+', re.sub(r'(?m)^use\s+[^;]+;', '', self.run)))
         else:
             self.uses, self.body = taken(r'(?m)^use\s+([^\s{]*?)(?:\.\{([^}]*)\}|\s+as\s+(\S+))?\s*$', self.text)
         self.names = set(names_in(self.body))

@@ -6,19 +6,21 @@ from names import has, names_in
 
 HEAD = """-- Written by .ci/contracts --write: for each function of {source}, that any two results that its contract allows are the same.
 """
-# the types of the code that are numbers to the definitions; and equality by a name of its own, whatever a contract means by `≡`
+# the types of the code that are numbers to the definitions; where the words of the library are; and equality by a name of its own, whatever a contract
+# means by `≡`
 NUMBERS = ('u8', 'u16', 'u32', 'u64', 'usize')
-EQUALS = ('mathlib.Core.Path', '_≡_ as _is_')
+WORDS = 'Rattle.std.specs.Prelude'
+EQUALS = (WORDS, '◌≡◌ as ◌is◌')
 
 
 class Unknown(Exception):
     pass
 
 
-def module_of(room, file):
-    """The module of a file of definitions or proofs, as a proof of the room names it."""
+def module_of(file):
+    """The module of a file of definitions or proofs."""
     other, part, *rest = file.removesuffix('.antt').split('/')
-    return f'Rattle·{room}·{part}.{part}.{".".join(rest)}' if other == room else f'Rattle·{other}.{part}.{".".join(rest)}'
+    return f'Rattle.{other}.{part}.{".".join(rest)}'
 
 
 class File:
@@ -36,21 +38,21 @@ class File:
         """A type of the code as its definitions have it."""
         plain = re.sub(r"&|'\w+\s|\bmut\b", ' ', rust).strip()
         if plain.startswith('['):
-            self.take('mathlib.Core.List', 'List')
-            self.take('Prim.Native.Nat', 'ℕ')
+            self.take(WORDS, 'List')
+            self.take(WORDS, 'ℕ')
             return 'List ℕ'
         if plain in NUMBERS:
-            self.take('Prim.Native.Nat', 'ℕ')
+            self.take(WORDS, 'ℕ')
             return 'ℕ'
         if plain == 'bool':
-            self.take('mathlib.Core.Bool', 'Bool')
+            self.take(WORDS, 'Bool')
             return 'Bool'
         name = own if plain == 'Self' else plain
         where = self.uses.get(name, [self.room, name])
         room = self.room if where[0] == 'crate' else where[0]
         if name not in self.types.get(room, ()):
             raise Unknown(f'the type {plain}')
-        self.take(module_of(self.room, f'{room}/specs/declared/{name}.antt'), name)
+        self.take(module_of(f'{room}/specs/declared/{name}.antt'), name)
         return name
 
     def text(self):
@@ -66,7 +68,7 @@ class File:
 
 def other(text):
     """A contract with its results renamed."""
-    return re.sub(r'(?<![\w.])r(?!\w)', 'r₂', text.replace('′', '″'))
+    return re.sub(r"(?<![\w.])r(?![\w'])", 'r₂', re.sub(r"(?<=\w)'", "''", text))
 
 
 def law(file, f, found, laws):
@@ -74,7 +76,7 @@ def law(file, f, found, laws):
     applies it, and for a record how many arguments it has."""
     steps = f.path.split('::')
     own = steps[-2] if re.match('[A-Z]', steps[-2]) else None
-    name = '-'.join(([own.lower()] if own else []) + [steps[-1].replace('_', '-')]) + '-once'
+    name = '_'.join(([own.lower()] if own else []) + [steps[-1]]) + '_once'
     binders, memories = [], []
     for parameter in f.parameters:
         word, _, rust = parameter.partition(':')
@@ -87,27 +89,26 @@ def law(file, f, found, laws):
     if f.result:
         binders.append(('r r₂', file.type_of(f.type, own)))
     if memories:
-        binders.append((' '.join(f'{m}′ {m}″' for m in memories), 'List ℕ'))
-    asked, sized = [], any('stateIn cells′ holds′' in result for _, results, _ in found for result in results)
+        binders.append((' '.join(f"{m}' {m}''" for m in memories), 'List ℕ'))
+    asked, sized = [], any("state_in cells' holds'" in result for _, results, _ in found for result in results)
     if sized:
-        state = module_of(file.room, 'state/specs/Cells.antt')
-        file.take('lib.ListN', 'length')
-        file.take(state, 'cellsSize')
-        asked = ['length cells′ is cellsSize', 'length cells″ is cellsSize']
+        file.take(WORDS, 'length')
+        file.take(module_of('state/specs/Cells.antt'), 'cells_size')
+        asked = ["length cells' is cells_size", "length cells'' is cells_size"]
     file.take(*EQUALS)
     names = ' '.join(word for word, _ in binders)
     grouped = [(' '.join(word for word, _ in group), kind) for kind, group in groupby(binders, lambda binder: binder[1])]
-    sizes = ' sized sized-other' if sized else ''
+    sizes = ' sized sized_other' if sized else ''
     types, terms = [], []
     for i, (shape, results, text) in enumerate(found):
-        one, two = ('by-one', 'by-other') if len(found) == 1 else (f'(by-one .{i})', f'(by-other .{i})')
+        one, two = ('by_one', 'by_other') if len(found) == 1 else (f'by_one.{i}', f'by_other.{i}')
         kind, term = applied(file, shape, results, one, two, laws)
         types.append(kind)
         terms.append(term)
     contract = ' × '.join(f'({text})' if len(found) > 1 else text for _, _, text in found)
     steps = asked + [f'({contract})', f'({other(contract)})']
     file.laws += [f'pub {name} : {" ".join(f"({words} : {kind})" for words, kind in grouped)}', *(f'    → {step}' for step in [*steps, joined(types)]),
-                  f'{name} {names}{sizes} by-one by-other = {terms[0] if len(terms) == 1 else "(" + ", ".join(terms) + ")"}', '']
+                  f'{name} {names}{sizes} by_one by_other = {terms[0] if len(terms) == 1 else "(" + ", ".join(terms) + ")"}', '']
     return name
 
 
@@ -117,30 +118,30 @@ def joined(types):
 
 def same(result):
     """That a result is the other one: of the state in the two lent arrays, both arrays."""
-    if 'stateIn' in result:
-        return '(cells′ is cells″) × (holds′ is holds″)'
+    if 'state_in' in result:
+        return "(cells' is cells'') × (holds' is holds'')"
     return f'{result} is {other(result)}'
 
 
 def applied(file, shape, results, one, two, laws):
     """What one part of the contract fixes, as a type and a term for it."""
-    arrays = 'lent-once _ _ _ _ _ sized sized-other {} {}'
-    if shape == 'state' or any('stateIn' in result for result in results):
-        file.take(module_of(file.room, 'state/proofs/Lent.antt'), 'lent-once')
+    arrays = 'lent_once _ _ _ _ _ sized sized_other {} {}'
+    if shape == 'state' or any('state_in' in result for result in results):
+        file.take(module_of('state/proofs/Lent.antt'), 'lent_once')
     if shape == 'state':
         return same(results[0]), arrays.format(one, two)
     where, head, term, arity = laws[shape]
-    file.take(module_of(file.room, where), head)
+    file.take(module_of(where), head)
     if shape == 'for any':
-        file.take('mathlib.Core.List', '[]')
+        file.take(WORDS, '[]')
         return same(results[0]), f'{term} [] _ _ _ {one} {two}'
     if arity is None:
         return same(results[0]), f'{term} _ _ _ {one} {two}'
     told = f'{term} {"_ " * (arity + len(results))}{one} {two}'
-    if not any('stateIn' in result for result in results):
+    if not any('state_in' in result for result in results):
         return joined([same(result) for result in results]), told
-    file.take('mathlib.Core.Path', 'refl')
-    terms = [arrays.format(f'(told .{i})', 'refl') if 'stateIn' in result else f'told .{i}' for i, result in enumerate(results)]
+    file.take('Rattle.std.proofs.Common', 'refl')
+    terms = [arrays.format(f'told.{i}', 'refl') if 'state_in' in result else f'told.{i}' for i, result in enumerate(results)]
     return joined([same(result) for result in results]), f'(let told = {told} in ({", ".join(terms)}))'
 
 

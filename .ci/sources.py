@@ -52,25 +52,15 @@ def parts(text, sign):
 
 
 def short(clause):
-    """A clause as docs/CONTRACTS.md writes it: `x` for lent memory at entry and `x′` at exit, `r` for what is handed back."""
+    """A clause as docs/CONTRACTS.md writes it: `x` for lent memory at entry and `x'` at exit, `r` for what is handed back."""
     clause = words(clause).replace('«', '').replace('»', '')
-    bound = re.fullmatch(r'λ (\w+)\. ⌜ (.*) ⌝', clause)
-    if bound:
-        result, clause = bound.groups()
-        clause = re.sub(rf'\bnow {result}\b', result, clause)
-        if result not in ('_', 'r'):
-            clause = re.sub(rf'(?<![\w.]){result}\b', 'r', clause)
-    else:
-        asked = re.fullmatch(r'⌜ (.*) ⌝', clause)
-        clause = asked.group(1) if asked else clause
-    for place, mark in (('entry', ''), ('exit', '′')):
-        clause = re.sub(rf'\(now \((\w+) \.{place}\)\)|now \((\w+) \.{place}\)', lambda m: (m[1] or m[2]) + mark, clause)
-    return unwrapped(re.sub(r'\(now (\w+)\)|\bnow (\w+)', lambda m: m[1] or m[2], clause))
+    clause = re.sub(r"(?<![\w.])result(?:\.now)?(?![\w'])", 'r', clause)
+    return unwrapped(re.sub(r"(?<![\w.'])(\w+)\.(now|old|new)(?![\w'])", lambda m: m[1] + ("'" if m[2] == 'new' else ''), clause))
 
 
 class Function:
     def __init__(self, path, file, parameters, result, clauses, body, exported):
-        self.path, self.file, self.body, self.exported = path, file, body, exported
+        self.path, self.file, self.body, self.exported, self.line = path, file, body, exported, None
         # the type of what is handed back, and whether anything is
         self.type, self.result = result, result not in ('', '()')
         self.parameters = [part for part in parts(parameters, ',') if part]
@@ -86,22 +76,22 @@ class Function:
             return [], 'is declared without a body'
         if not self.ensures:
             return [], 'has no ensures'
-        if re.search(r'\.(?:entry|exit)\b|\bnow\b', self.ensures):
+        if re.search(r'\.(?:now|old|new)\b', self.ensures):
             return [], 'has a contract that reads lent memory in a way that is not known here'
         found, fixed = [], set()
         for part in parts(self.ensures, '×'):
             shape, results, inputs = shape_of(unwrapped(part), heads)
             if not shape:
                 return [], 'has a contract of no shape that is known here'
-            if any(re.search(r'(?<![\w.])r\b|′', text) for text in inputs):
+            if any(re.search(r"(?<![\w.])r\b|\w'", text) for text in inputs):
                 return [], 'has a contract that fixes a result by another'
             found.append((shape, results, unwrapped(part)))
-            fixed.update(name for result in results for name in re.findall(r"\w+′|\br\b", result))
-        missing = [x + '′' for x in self.lent if x + '′' not in fixed] + (['r'] if self.result and 'r' not in fixed else [])
+            fixed.update(name for result in results for name in re.findall(r"\w+'|\br\b", result))
+        missing = [x + "'" for x in self.lent if x + "'" not in fixed] + (['r'] if self.result and 'r' not in fixed else [])
         return found, f'has a contract that leaves {", ".join(missing)} open' if missing else None
 
 
-RESULT = re.compile(r'r|\w+′|\(?stateIn cells′ holds′\)?')
+RESULT = re.compile(r"r|\w+'|\(?state_in cells' holds'\)?")
 
 
 def shape_of(part, heads):
@@ -110,11 +100,11 @@ def shape_of(part, heads):
     bound = re.fullmatch(r'\(\w+ : [^()]*\) → (.*)', part)
     sides = parts(bound[1] if bound else part, '≡')
     if len(sides) == 2 and not re.search('[→⊎∨↔]', sides[0] + sides[1]):
-        field = re.fullmatch(r'r (\.\w+)', sides[0])
+        field = re.fullmatch(r'r(\.\w+)', sides[0])
         if field and not bound:
             return f'`{field[1]}`', ['r'], sides[1:]
         if RESULT.fullmatch(sides[0]):
-            state = 'stateIn' in sides[0]
+            state = 'state_in' in sides[0]
             return (None if state else 'for any') if bound else 'state' if state else 'equality', sides[:1], sides[1:]
         return None, [], []
     head, *rest = arguments(part)
@@ -154,7 +144,7 @@ def read_file(root, file):
             whole = [s.strip() for s in whole.split('::') if s.strip()]
             if whole:
                 uses[other.strip() or whole[-1]] = whole
-    functions, scopes, at = [], [], 0
+    functions, scopes, at, lines = [], [], 0, text.split('\n')
     token = re.compile(r'\bfn\s+(\w+)|\b(?:mod|impl)\s+(\w+)[^{;]*\{|[{}]')
     while True:
         m = token.search(plain, at)
@@ -168,7 +158,12 @@ def read_file(root, file):
         else:
             path = module + [s for s in scopes if s] + [m[1]]
             exported = bool(re.search(r'\bextern\s+$', plain[:m.start()]))
+            # where it begins, with what stands above it about it
+            line = plain.count('\n', 0, m.start()) + 1
+            while line > 1 and lines[line - 2].lstrip().startswith('#['):
+                line -= 1
             function, at = read_function(plain, text, at, '::'.join(path), file, exported)
+            function.line = line
             functions.append(function)
 
 
@@ -369,21 +364,21 @@ def spans(cell):
 ANSWERS, LINES, WRITING = 'events/specs/Answers.antt', 'lines/specs/Lines.antt', 'writing/specs/Writing.antt'
 # the definitions of numbers by the cases of an enum: how the header's names begin, and where their values and the words of their lines are defined
 NUMBERED = (
-    ('FORM_', 'reading/specs/Reading.antt', 'formNumber', None, None),
-    ('REFUSED_', ANSWERS, 'refusalNumber', 'refusalValues', 'refusalWords'),
-    ('ACCIDENT_', ANSWERS, 'harmNumber', 'harmValues', 'harmWords'),
-    ('', ANSWERS, 'deedNumber', 'deedValues', 'deedWords'),
+    ('FORM_', 'reading/specs/Reading.antt', 'form_number', None, None),
+    ('REFUSED_', ANSWERS, 'refusal_number', 'refusal_values', 'refusal_words'),
+    ('ACCIDENT_', ANSWERS, 'harm_number', 'harm_values', 'harm_words'),
+    ('', ANSWERS, 'deed_number', 'deed_values', 'deed_words'),
 )
 # sizes by another name in the header, or by two; memory of such a size that is a struct there; and the program's own
 RENAMED = {'IMAGE': ('LARGEST_PLAN', 'IMAGE'), 'TRACKS': ('TRACKS', 'HOLDS')}
 OPAQUE = {'IMAGE': 'signalbox_image'}
 FACED = tuple(file for file in SIZES if not file.startswith('bench/'))
-SHOWN = {'noTrain': 'NO_TRAIN', 'normalLie': 'NORMAL', 'reverseLie': 'REVERSE', 'red': 'RED'}
+SHOWN = {'no_train': 'NO_TRAIN', 'normal_lie': 'NORMAL', 'reverse_lie': 'REVERSE', 'red': 'RED'}
 TYPES = {'u8': 'uint8_t', 'u64': 'uint64_t', 'usize': 'size_t', '': 'void'}
 
 
 def capitals(name):
-    """`EndsEarly` and `endsEarly` as ENDS_EARLY."""
+    """`EndsEarly` and `ends_early` as ENDS_EARLY."""
     return re.sub(r'(?<=[a-z])(?=[A-Z])', '_', name).upper()
 
 
@@ -435,30 +430,30 @@ def face_codes(root):
         for case, (value, place) in equations(root, file, number).items():
             if values:
                 heads = {'REFUSED_': 'Refused', 'ACCIDENT_': 'Accident', '': 'Done'}
-                said_ = strings(given_for(root, LINES, 'answerWords', heads[lead])) + strings(given_for(root, LINES, said, case))
+                said_ = strings(given_for(root, LINES, 'answer_words', heads[lead])) + strings(given_for(root, LINES, said, case))
                 named_ = [f'<{name}>' for name in re.findall(r'\w+', given_for(root, file, values, case))]
                 line = wording(said_, [int(value)] * bool(lead) + named_)
             else:
-                line = wording(strings(place_of(root, LINES, r'^formLine form = .*')[0][0]), [int(value), '<offset>'])
+                line = wording(strings(place_of(root, LINES, r'^form_line form = .*')[0][0]), [int(value), '<offset>'])
             found[lead + capitals(case)] = (int(value), line, place)
-    for case, (value, place) in equations(root, WRITING, 'unwrittenNumber').items():
+    for case, (value, place) in equations(root, WRITING, 'unwritten_number').items():
         found[capitals(case)] = (int(value), None, place)
-    written, place = place_of(root, WRITING, r'^writtenNumber \(Whole size\) = (\d+)$')
+    written, place = place_of(root, WRITING, r'^written_number \(Whole size\) = (\d+)$')
     found['WRITTEN'] = (int(written[1]), None, place)
-    accepted, place = place_of(root, 'codes/specs/Codes.antt', r'^verdictCode v = packed \(\((\d+) \+ ruleNumber v\)')
-    found['ACCEPTED'] = (int(accepted[1]), *strings(given_for(root, LINES, 'verdictLine', 'Accepted')), place)
+    accepted, place = place_of(root, 'codes/specs/Codes.antt', r'^verdict_code v = packed \(\((\d+) \+ rule_number v\)')
+    found['ACCEPTED'] = (int(accepted[1]), *strings(given_for(root, LINES, 'verdict_line', 'Accepted')), place)
     return found
 
 
 def face_rule(root):
     """The line of a broken rule."""
-    return wording(strings(given_for(root, LINES, 'verdictLine', 'Broken')), ['<rule>', '<row>'])
+    return wording(strings(given_for(root, LINES, 'verdict_line', 'Broken')), ['<rule>', '<row>'])
 
 
 def face_events(root):
     """The bytes of the four events by name, each with what its other bytes are."""
     file = 'events/specs/Events.antt'
-    definition, place = place_of(root, file, r'^eventOf kind first second =\n((?:    .*\n)+)')
+    definition, place = place_of(root, file, r'^event_of kind first second =\n((?:    .*\n)+)')
     bytes_ = {case: int(byte) for byte, case in re.findall(r'eqb kind (\d+)\) \((\w+)', definition[1])}
     told = {name.capitalize(): (int(byte), f'{first}, {second}')
             for byte, name, first, second in re.findall(r'(\d+) (\w+) \((\w+), (\w+)\)', place_of(root, file, r'^-- 1 request .*')[0][0])}
@@ -510,6 +505,16 @@ def c_parameters(parameter):
     return [f'{lead}{c_type(type_)} *{name}', 'size_t room' if written else f'size_t {name}_length']
 
 
+def struct_of(root, name):
+    """The fields of a struct that is laid out as C does it, wherever the crates declare it, and its place."""
+    pattern = rf'^(?:#\[.*\]\n)*#\[repr\(C\)\]\n(?:#\[.*\]\n)*pub struct {name} \{{([^}}]*)\}}'
+    for file in sorted(root.glob('crates/*/src/**/*.rt')):
+        if re.search(pattern, file.read_text(), re.M):
+            fields, where = place_of(root, file.relative_to(root / 'crates').as_posix(), pattern)
+            return fields[1], where
+    raise ValueError(f'no struct {name} is declared by the crates as C has it')
+
+
 def face_functions(root):
     """The exported functions as they are declared in C, by name, each with its place; and the structs: what a call hands back, the image, and the
     state, which is all that the fresh state is lent."""
@@ -520,15 +525,17 @@ def face_functions(root):
             continue
         inner = file.relative_to(root / 'crates').as_posix()
         for f in read_file(root, file)[0]:
-            if not re.search(rf'#\[no_mangle\]\s*pub extern "C" fn {f.path.split("::")[-1]}\b', text):
-                continue
             name = f.path.split('::')[-1]
+            if not re.search(rf'#\[unsafe\(no_mangle\)\]\s*pub extern "C" fn {name}\b', text):
+                continue
             place = place_of(root, inner, rf'\bfn {name}\b')[1]
+            if name in functions:
+                raise ValueError(f'{name} is exported at {functions[name][-1]} and at {place}')
             result = TYPES.get(f.type)
             if result is None:
                 result = 'signalbox_' + f.type.lower()
-                fields, where = place_of(root, inner, rf'^#\[repr\(C\)\]\npub struct {f.type} \{{([^}}]*)\}}')
-                structs[result] = ([f'{c_type(type_)} {field}' for field, type_ in re.findall(r'pub (\w+): (\w+),', fields[1])], where)
+                fields, where = struct_of(root, f.type)
+                structs[result] = ([f'{c_type(type_)} {field}' for field, type_ in re.findall(r'pub (\w+): (\w+),', fields)], where)
             parameters = [text_ for parameter in f.parameters for text_ in c_parameters(words(parameter))]
             functions[name] = (result, parameters, place)
             for type_, length in re.findall(r'\[\s*(\w+)\s*;\s*(\w+)\s*\]', ' '.join(f.parameters)):
@@ -559,7 +566,7 @@ def forms(root):
 def counts_due(root):
     """The counts of the plan file by the name of what is counted, each with its least and its most, as the table of forms has them: those of the
     sections, and those of a route's lists."""
-    blocks_of = (found_in(root, 'forms/specs/Forms.antt', rf'^{name}\b[^:\n]*=\n((?:.+\n)+)') for name in ('planFile', 'routeRow'))
+    blocks_of = (found_in(root, 'forms/specs/Forms.antt', rf'^{name}\b[^:\n]*=\n((?:.+\n)+)') for name in ('plan_file', 'route_row'))
     return [{name: (int(least), int(most)) for least, most, name in re.findall(r'\bcount(?:ed)? (\d+) (\d+).* λ (\w+)\.$', block, re.M)} for block in blocks_of]
 
 
@@ -574,7 +581,7 @@ def unused_numbers(root):
 def plan_rules(root):
     """The plan rules by name in their order, each with its number and what its rows are."""
     text = (Path(root) / 'crates/rules/specs/Verdict.antt').read_text()
-    listed = re.findall(r'over \(length \(p \.(\w+)\)\) \(\w+ p\) \((\w+) p\)', text)
+    listed = re.findall(r'over \(length p\.(\w+)\) \(\w+ p\) \((\w+) p\)', text)
     return {name: (number, re.sub(r's$', '', row.replace('ies', 'y'))) for number, (row, name) in enumerate(listed, 1)}
 
 
@@ -582,15 +589,15 @@ def events(root):
     """The events by name, each with its first byte; how many bytes an event has; what an unused one is."""
     file = 'events/specs/Events.antt'
     first = {name: int(byte) for byte, name in re.findall(r'\(eqb kind (\d+)\) \((\w+)', (Path(root) / 'crates' / file).read_text())}
-    return first, found_in(root, file, r'^unfoldable pub eventOf : (.*) → Event$').count('ℕ'), int(found_in(root, file, r'eqb second (\d+)'))
+    return first, found_in(root, file, r'^unfoldable pub event_of : (.*) → Event$').count('ℕ'), int(found_in(root, file, r'eqb second (\d+)'))
 
 
 def answers(root):
     """The refusals and accidents by name, each with its number; and for each kind of event the numbers of its tests in their order."""
     text = (Path(root) / 'crates/events/specs/Answers.antt').read_text()
-    numbers = {name: int(number) for name, number in re.findall(r'^(?:refusal|harm)Number \(?(\w+)[^=\n]*= (\d+)$', text, re.M)}
+    numbers = {name: int(number) for name, number in re.findall(r'^(?:refusal|harm)_number \(?(\w+)[^=\n]*= (\d+)$', text, re.M)}
     meaning = (Path(root) / 'crates/events/specs/Meaning.antt').read_text()
-    tables = re.findall(r'^  (\w+)Table [^:\n]*=\n((?:.+\n)+)', meaning, re.M)
+    tables = re.findall(r'^  (\w+)_table [^:\n]*=\n((?:.+\n)+)', meaning, re.M)
     return numbers, {event: [numbers[name] for name in re.findall(r'(?:Refused|Accident) \(?(\w+)', table)] for event, table in tables if event != 'event'}
 
 
@@ -598,11 +605,11 @@ def line_shapes(root):
     """The lines that can be printed, each as a pattern."""
     text = (Path(root) / 'crates/lines/specs/Lines.antt').read_text()
     numbers, _ = answers(root)
-    said = {name: re.findall(r'"([^"]*)"', rest) for name, rest in re.findall(r'^\w+(?:Words|Line) \(?(\w+)[^=\n]*=(.*)$', text, re.M)}
+    said = {name: re.findall(r'"([^"]*)"', rest) for name, rest in re.findall(r'^\w+_(?:words|line) \(?(\w+)[^=\n]*=(.*)$', text, re.M)}
     shapes = [''.join(said['Accepted'])]
     for name, words_of in said.items():
         if name in numbers:
-            harm = re.search(rf'^harmWords \(?{name}\b', text, re.M)
+            harm = re.search(rf'^harm_words \(?{name}\b', text, re.M)
             shapes.append(f'{said["Accident" if harm else "Refused"][0]}{numbers[name]}' + ''.join(word + r'\d+' for word in words_of))
         elif words_of and name not in ('Accepted', 'Accident', 'Refused'):
             shapes.append(''.join(word + r'\d+' for word in words_of))
@@ -616,12 +623,12 @@ def document_numbers(root):
     named = {**limits, **defined(root, 'plan/specs/Kinds.antt'), **forms(root), **{name: number for name, (number, _) in rules.items()}, **first, **numbers}
     return named, {
         'IMAGE': sizes(root)['IMAGE'], 'BYTE': 255, 'RULES': len(rules), 'EVENT': size, 'UNUSED': unused, 'SECTIONS': len(sections), 'LISTS': len(lists),
-        'noTrain': defined(root, 'state/specs/State.antt')['noTrain'],
+        'no_train': defined(root, 'state/specs/State.antt')['no_train'],
         'least': {name: least for name, (least, _) in {**lists, **sections}.items()},
         'row': {name: row for name, (_, row) in rules.items()},
         'order': {name: ', '.join(map(str, order)) for name, order in tests.items()},
         'unused': {kind: ', '.join(n * [str(unused)]) for kind, n in unused_numbers(root).items()},
-        'deeds': re.findall(r'^deedWords \(\w+[^=\n]*= "(\w+) "', (Path(root) / 'crates/lines/specs/Lines.antt').read_text(), re.M),
+        'deeds': re.findall(r'^deed_words \(\w+[^=\n]*= "(\w+) "', (Path(root) / 'crates/lines/specs/Lines.antt').read_text(), re.M),
     }
 
 
@@ -629,8 +636,8 @@ def plan_rows(root, file):
     """The bytes of a plan row after row, each with its offset and what it says, numbers in the order of the bytes; and where the row of a track,
     signal, route or entry starts, by its name."""
     kinds = defined(root, 'plan/specs/Kinds.antt')
-    says = {kinds['plainKind']: 'plain, leads to track {1}', kinds['facingKind']: 'a facing point; its normal way out is track {1}, its reverse way out track {2}',
-            kinds['trailingKind']: 'a trailing point, leads to track {1}; its normal leg is track {2}, its reverse leg track {3}', kinds['exitKind']: 'an exit'}
+    says = {kinds['plain_kind']: 'plain, leads to track {1}', kinds['facing_kind']: 'a facing point; its normal way out is track {1}, its reverse way out track {2}',
+            kinds['trailing_kind']: 'a trailing point, leads to track {1}; its normal leg is track {2}, its reverse leg track {3}', kinds['exit_kind']: 'an exit'}
     found, starts, at = [], {}, 0
 
     def take(n, text):
@@ -677,7 +684,7 @@ def plan_rows(root, file):
 def merging(root, file):
     """What a drawing of two lines that merge has, line by line: what comes in at the normal leg; the point and where it leads; the reverse leg."""
     _, at = plan_rows(root, file)
-    trailing = defined(root, 'plan/specs/Kinds.antt')['trailingKind']
+    trailing = defined(root, 'plan/specs/Kinds.antt')['trailing_kind']
     point = next(name for name, i in at.items() if name.startswith('track') and file[i] == trailing)
     _, behind, *legs = file[at[point]:at[point] + 4]
 

@@ -1,11 +1,8 @@
 -- Written by .ci/contracts --write: for each function of src/lib.rt, that any two results that its contract allows are the same.
-use mathlib.Core.List.{List}
-use Prim.Native.Nat.{ℕ}
+use Rattle.std.specs.Prelude.{List, ℕ, ◌≡◌ as ◌is◌, Bool, ◌≡◌}
 use Rattle.rules.specs.declared.Verdict.{Verdict}
-use mathlib.Core.Path.{◌≡◌ as ◌is◌, ◌≡◌}
 use Rattle.laws.specs.Once.{equal_once}
 use Rattle.laws.specs.declared.Found.{Found}
-use mathlib.Core.Bool.{Bool}
 use Rattle.plan.specs.Image.{plan_of}
 use Rattle.rules.specs.Verdict.{rule_of, lowest_broken, verdict}
 

@@ -1,12 +1,7 @@
 -- Written by .ci/contracts --write: for each function of src/tracks.rt, that any two results that its contract allows are the same.
-use mathlib.Core.List.{List}
-use Prim.Native.Nat.{ℕ}
-use mathlib.Core.Bool.{Bool, true, false, not, cond, ◌&&◌}
-use mathlib.Core.Path.{◌≡◌ as ◌is◌, ◌≡◌}
+use Rattle.std.specs.Prelude.{List, ℕ, Bool, ◌≡◌ as ◌is◌, ◌≡◌, true, false, not, cond, ◌&&◌, eqb, length}
 use Rattle.laws.specs.Once.{equal_once}
 use Rattle.laws.specs.declared.Found.{Found}
-use lib.Dec.{eqb}
-use lib.ListN.{length}
 use Rattle.laws.specs.Search.{lowest}
 use Rattle.plan.specs.Kinds.{forks, legged, out, leg}
 use Rattle.plan.specs.Image.{plan_of}

@@ -1,6 +1,5 @@
 -- Written by .ci/contracts --write: for each function of src/lib.rt, that any two results that its contract allows are the same.
-use Prim.Native.Nat.{ℕ, ◌+◌, ◌*◌, ◌%◌}
-use mathlib.Core.Path.{◌≡◌ as ◌is◌, ◌≡◌}
+use Rattle.std.specs.Prelude.{ℕ, ◌≡◌ as ◌is◌, ◌≡◌, ◌+◌, ◌*◌, ◌%◌, [], ◌∷◌}
 use Rattle.laws.specs.Once.{equal_once}
 use Rattle.events.specs.declared.Refusal.{Refusal}
 use Rattle.events.specs.declared.Harm.{Harm}
@@ -10,7 +9,6 @@ use Rattle.reading.specs.declared.Form.{Form}
 use Rattle.writing.specs.declared.Unwritten.{Unwritten}
 use Rattle.writing.specs.declared.Written.{Written}
 use Rattle.rules.specs.declared.Verdict.{Verdict}
-use mathlib.Core.List.{[], ◌∷◌}
 use Rattle.events.specs.declared.Answer.TheVariants.{Refused, Accident, Done}
 use Rattle.writing.specs.Writing.{unwritten_number}
 use Rattle.codes.specs.Codes.{packed, answer_code, form_code, verdict_code, written_code}

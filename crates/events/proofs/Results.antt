@@ -1,10 +1,7 @@
 -- Written by .ci/contracts --write: for each function of src/lib.rt, that any two results that its contract allows are the same.
-use Prim.Native.Nat.{ℕ}
+use Rattle.std.specs.Prelude.{ℕ, ◌≡◌ as ◌is◌, List, ◌≡◌, length, drop}
 use Rattle.events.specs.declared.Event.{Event}
-use mathlib.Core.Path.{◌≡◌ as ◌is◌, ◌≡◌}
 use Rattle.laws.specs.Once.{equal_once}
-use mathlib.Core.List.{List}
-use lib.ListN.{length, drop}
 use Rattle.events.specs.Events.{event_of, first_event, events_of}
 
 pub event_of_once : (kind first second : ℕ) (r r₂ : Event)

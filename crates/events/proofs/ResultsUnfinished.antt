@@ -1,10 +1,7 @@
 -- Written by .ci/contracts --write: for each function of src/unfinished.rt, that any two results that its contract allows are the same.
-use mathlib.Core.List.{List, ◌++◌}
-use Prim.Native.Nat.{ℕ}
-use mathlib.Core.Path.{◌≡◌ as ◌is◌, ◌≡◌}
+use Rattle.std.specs.Prelude.{List, ℕ, ◌≡◌ as ◌is◌, ◌≡◌, ◌++◌, length, get_or}
 use Rattle.laws.specs.Once.{equal_once}
 use Rattle.events.specs.declared.Event.{Event}
-use lib.ListN.{length, get_or}
 use Rattle.events.specs.declared.Event.TheVariants.{Unknown}
 use Rattle.events.specs.Events.{whole_events, left_over, unfinished_in, unfinished_cells}
 

@@ -1,11 +1,7 @@
 -- Written by .ci/contracts --write: for each function of src/lib.rt, that any two results that its contract allows are the same.
-use mathlib.Core.List.{List}
-use Prim.Native.Nat.{ℕ, ◌-◌}
-use mathlib.Core.Bool.{Bool}
-use mathlib.Core.Path.{◌≡◌ as ◌is◌, ◌≡◌}
+use Rattle.std.specs.Prelude.{List, ℕ, Bool, ◌≡◌ as ◌is◌, ◌≡◌, ◌-◌, length}
 use Rattle.laws.specs.Once.{equal_once}
 use Rattle.reading.specs.declared.Seen.{Seen}
-use lib.ListN.{length}
 use Rattle.plan.specs.Limits.{tracks_at, routes_at, entries_at}
 use Rattle.plan.specs.Image.{plan_of}
 use Rattle.reading.specs.Reading.{scanned}

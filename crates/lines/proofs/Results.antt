@@ -1,9 +1,7 @@
 -- Written by .ci/contracts --write: for each function of src/lib.rt, that any two results that its contract allows are the same.
-use Prim.Native.Nat.{ℕ}
-use mathlib.Core.Path.{◌≡◌ as ◌is◌, ◌≡◌}
+use Rattle.std.specs.Prelude.{ℕ, ◌≡◌ as ◌is◌, List, ◌≡◌}
 use Rattle.laws.specs.Once.{equal_once}
 use Rattle.events.specs.declared.Refusal.{Refusal}
-use mathlib.Core.List.{List}
 use Rattle.laws.specs.Written.{wrote_once, Wrote}
 use Rattle.events.specs.declared.Harm.{Harm}
 use Rattle.events.specs.declared.Deed.{Deed}

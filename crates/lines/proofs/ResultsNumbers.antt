@@ -1,7 +1,6 @@
 -- Written by .ci/contracts --write: for each function of src/numbers.rt, that any two results that its contract allows are the same.
 use Rattle.events.specs.declared.Refusal.{Refusal}
-use Prim.Native.Nat.{ℕ}
-use mathlib.Core.Path.{◌≡◌ as ◌is◌, ◌≡◌}
+use Rattle.std.specs.Prelude.{ℕ, ◌≡◌ as ◌is◌, ◌≡◌}
 use Rattle.laws.specs.Once.{equal_once}
 use Rattle.events.specs.declared.Harm.{Harm}
 use Rattle.reading.specs.declared.Form.{Form}

@@ -1,7 +1,5 @@
 -- Written by .ci/contracts --write: for each function of src/text.rt, that any two results that its contract allows are the same.
-use Prim.Native.Nat.{ℕ}
-use mathlib.Core.List.{List, ◌++◌}
-use mathlib.Core.Path.{◌≡◌ as ◌is◌}
+use Rattle.std.specs.Prelude.{ℕ, List, ◌≡◌ as ◌is◌, ◌++◌}
 use Rattle.laws.specs.Written.{wrote_once, Wrote}
 use Rattle.lines.specs.Decimal.{decimal}
 use Rattle.lines.specs.Lines.{end}

@@ -1,11 +1,7 @@
 -- Written by .ci/contracts --write: for each function of src/lib.rt, that any two results that its contract allows are the same.
-use Prim.Native.Nat.{ℕ}
-use mathlib.Core.Path.{◌≡◌ as ◌is◌, ◌≡◌}
+use Rattle.std.specs.Prelude.{ℕ, ◌≡◌ as ◌is◌, List, Bool, ◌≡◌, cond, not, ltb}
 use Rattle.laws.specs.Once.{equal_once}
-use mathlib.Core.List.{List}
-use mathlib.Core.Bool.{Bool, cond, not}
 use Rattle.laws.specs.Written.{wrote_once, Wrote}
-use lib.Dec.{ltb}
 use Rattle.laws.specs.Lists.{all_of, has, different, empty_from}
 
 pub wide_once : (x r r₂ : ℕ)

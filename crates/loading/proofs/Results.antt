@@ -1,8 +1,6 @@
 -- Written by .ci/contracts --write: for each function of src/lib.rt, that any two results that its contract allows are the same.
-use mathlib.Core.List.{List}
-use Prim.Native.Nat.{ℕ}
+use Rattle.std.specs.Prelude.{List, ℕ, ◌≡◌ as ◌is◌, ◌≡◌}
 use Rattle.reading.specs.declared.Seen.{Seen}
-use mathlib.Core.Path.{◌≡◌ as ◌is◌, ◌≡◌}
 use Rattle.laws.specs.Once.{equal_once}
 use Rattle.reading.specs.Reading.{parse, seen}
 use Rattle.loading.specs.Storing.{after_reading}

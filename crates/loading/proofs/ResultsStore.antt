@@ -1,7 +1,5 @@
 -- Written by .ci/contracts --write: for each function of src/store.rt, that any two results that its contract allows are the same.
-use mathlib.Core.List.{List}
-use Prim.Native.Nat.{ℕ}
-use mathlib.Core.Path.{◌≡◌ as ◌is◌, ◌≡◌}
+use Rattle.std.specs.Prelude.{List, ℕ, ◌≡◌ as ◌is◌, ◌≡◌}
 use Rattle.laws.specs.Once.{equal_once}
 use Rattle.loading.specs.Storing.{list_end, copy_list, route_end, copy_route, copy_routes, entry_end, copy_entry, copy_entries}
 

@@ -1,11 +1,7 @@
 -- Written by .ci/contracts --write: for each function of src/image.rt, that any two results that its contract allows are the same.
-use mathlib.Core.List.{List, []}
-use Prim.Native.Nat.{ℕ}
-use mathlib.Core.Path.{◌≡◌ as ◌is◌, ◌≡◌}
+use Rattle.std.specs.Prelude.{List, ℕ, ◌≡◌ as ◌is◌, Bool, ◌≡◌, length, []}
 use Rattle.laws.specs.Once.{equal_once}
 use Rattle.plan.specs.declared.Track.{Track}
-use mathlib.Core.Bool.{Bool}
-use lib.ListN.{length}
 use Rattle.plan.specs.Kinds.{is_point}
 use Rattle.plan.specs.Records.{track_of, route_of, entry_of}
 use Rattle.plan.specs.File.{track_file, release_file}

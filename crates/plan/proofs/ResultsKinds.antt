@@ -1,9 +1,7 @@
 -- Written by .ci/contracts --write: for each function of src/kinds.rt, that any two results that its contract allows are the same.
 use Rattle.plan.specs.declared.Track.{Track}
-use mathlib.Core.Bool.{Bool}
-use mathlib.Core.Path.{◌≡◌ as ◌is◌, ◌≡◌}
+use Rattle.std.specs.Prelude.{Bool, ◌≡◌ as ◌is◌, ℕ, ◌≡◌}
 use Rattle.laws.specs.Once.{equal_once}
-use Prim.Native.Nat.{ℕ}
 use Rattle.plan.specs.Kinds.{uses, plain, exit, forks, legged, point, out, leg, no_track}
 
 pub plain_once : (t : Track) (r r₂ : Bool)

@@ -1,7 +1,5 @@
 -- Written by .ci/contracts --write: for each function of src/limits.rt, that any two results that its contract allows are the same.
-use mathlib.Core.List.{List}
-use Prim.Native.Nat.{ℕ}
-use mathlib.Core.Path.{◌≡◌ as ◌is◌, ◌≡◌}
+use Rattle.std.specs.Prelude.{List, ℕ, ◌≡◌ as ◌is◌, ◌≡◌}
 use Rattle.laws.specs.Once.{equal_once}
 use Rattle.plan.specs.Limits.{limit_table}
 

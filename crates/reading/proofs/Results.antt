@@ -1,10 +1,7 @@
 -- Written by .ci/contracts --write: for each function of src/lib.rt, that any two results that its contract allows are the same.
-use mathlib.Core.List.{List}
-use Prim.Native.Nat.{ℕ}
+use Rattle.std.specs.Prelude.{List, ℕ, ◌≡◌ as ◌is◌, ◌≡◌, length}
 use Rattle.reading.specs.declared.Seen.{Seen}
-use mathlib.Core.Path.{◌≡◌ as ◌is◌, ◌≡◌}
 use Rattle.laws.specs.Once.{equal_once}
-use lib.ListN.{length}
 use Rattle.plan.specs.Kinds.{is_point, limit_of}
 use Rattle.reading.specs.Reading.{below, count, entry, entry_section, number, path_list, point_list, release, release_list, rising_list, route, route_section, scanned, track, track_section}
 use Rattle.plan.specs.Image.{plan_of}

@@ -1,9 +1,6 @@
 -- Written by .ci/contracts --write: for each function of src/lib.rt, that any two results that its contract allows are the same.
-use mathlib.Core.List.{List}
-use Prim.Native.Nat.{ℕ, ◌-◌}
-use mathlib.Core.Path.{◌≡◌ as ◌is◌, ◌≡◌}
+use Rattle.std.specs.Prelude.{List, ℕ, ◌≡◌ as ◌is◌, Bool, ◌≡◌, ◌-◌}
 use Rattle.laws.specs.Once.{equal_once}
-use mathlib.Core.Bool.{Bool}
 use Rattle.laws.specs.Lists.{all_of, different}
 use Rattle.laws.specs.Search.{all_below}
 use Rattle.plan.specs.Records.{route_of}

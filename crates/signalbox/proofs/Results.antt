@@ -1,12 +1,10 @@
 -- Written by .ci/contracts --write: for each function of src/lib.rt, that any two results that its contract allows are the same.
-use mathlib.Core.List.{List}
-use Prim.Native.Nat.{ℕ}
-use mathlib.Core.Path.{◌≡◌ as ◌is◌, refl, ◌≡◌}
+use Rattle.std.specs.Prelude.{List, ℕ, ◌≡◌ as ◌is◌, length, ◌≡◌}
 use Rattle.signalbox.proofs.Once.{one_result}
 use Rattle.laws.specs.Once.{equal_once}
-use lib.ListN.{length}
 use Rattle.state.specs.Cells.{cells_size, state_in}
 use Rattle.state.proofs.Lent.{lent_once}
+use Rattle.std.proofs.Common.{refl}
 use Rattle.signalbox.specs.declared.Outcome.{Outcome}
 use Rattle.reading.specs.Reading.{parse}
 use Rattle.loading.specs.Storing.{after_reading}

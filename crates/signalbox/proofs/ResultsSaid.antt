@@ -1,10 +1,7 @@
 -- Written by .ci/contracts --write: for each function of src/said.rt, that any two results that its contract allows are the same.
-use mathlib.Core.List.{List}
-use Prim.Native.Nat.{ℕ}
+use Rattle.std.specs.Prelude.{List, ℕ, length, ◌≡◌ as ◌is◌, ◌≡◌}
 use Rattle.events.specs.declared.Event.{Event}
-use lib.ListN.{length}
 use Rattle.state.specs.Cells.{cells_size, state_in}
-use mathlib.Core.Path.{◌≡◌ as ◌is◌, ◌≡◌}
 use Rattle.state.proofs.Lent.{lent_once}
 use Rattle.laws.specs.Written.{wrote_once, Wrote}
 use Rattle.plan.specs.Image.{plan_of}

@@ -1,8 +1,6 @@
 -- Written by .ci/contracts --write: for each function of src/lib.rt, that any two results that its contract allows are the same.
 use Rattle.state.specs.declared.HoldSet.{HoldSet}
-use Prim.Native.Nat.{ℕ}
-use mathlib.Core.Bool.{Bool}
-use mathlib.Core.Path.{◌≡◌ as ◌is◌, ◌≡◌}
+use Rattle.std.specs.Prelude.{ℕ, Bool, ◌≡◌ as ◌is◌, ◌≡◌}
 use Rattle.laws.specs.Once.{equal_once}
 use Rattle.state.proofs.Lent.{routes_once}
 use Rattle.laws.specs.Sets.{member, excluding}

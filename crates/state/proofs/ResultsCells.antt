@@ -1,9 +1,6 @@
 -- Written by .ci/contracts --write: for each function of src/cells.rt, that any two results that its contract allows are the same.
-use mathlib.Core.List.{List}
-use Prim.Native.Nat.{ℕ}
-use mathlib.Core.Path.{◌≡◌ as ◌is◌, ◌≡◌}
+use Rattle.std.specs.Prelude.{List, ℕ, ◌≡◌ as ◌is◌, ◌≡◌, get_or}
 use Rattle.laws.specs.Once.{equal_once}
-use lib.ListN.{get_or}
 use Rattle.state.specs.Cells.{offset_table, trains_in, lies_in, signals_in}
 
 pub offsets_once : (r r₂ : List ℕ)

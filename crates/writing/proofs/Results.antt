@@ -1,10 +1,7 @@
 -- Written by .ci/contracts --write: for each function of src/lib.rt, that any two results that its contract allows are the same.
-use mathlib.Core.List.{List}
-use Prim.Native.Nat.{ℕ}
+use Rattle.std.specs.Prelude.{List, ℕ, ◌≡◌ as ◌is◌, ◌≡◌, length}
 use Rattle.writing.specs.declared.Written.{Written}
-use mathlib.Core.Path.{◌≡◌ as ◌is◌, ◌≡◌}
 use Rattle.laws.specs.Once.{equal_once}
-use lib.ListN.{length}
 use Rattle.writing.specs.Writing.{after_writing, written}
 
 pub judged_once : (image : List ℕ) (room : ℕ) (r r₂ : Written)

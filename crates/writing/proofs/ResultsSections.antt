@@ -1,7 +1,5 @@
 -- Written by .ci/contracts --write: for each function of src/sections.rt, that any two results that its contract allows are the same.
-use Prim.Native.Nat.{ℕ}
-use mathlib.Core.List.{List, ◌∷◌}
-use mathlib.Core.Path.{◌≡◌ as ◌is◌}
+use Rattle.std.specs.Prelude.{ℕ, List, ◌≡◌ as ◌is◌, ◌∷◌}
 use Rattle.laws.specs.Written.{wrote_once, Wrote}
 use Rattle.plan.specs.Records.{route_of, entry_of}
 use Rattle.plan.specs.File.{counted_file, entry_file, file_of, list_file, route_file, track_file}

@@ -1,9 +1,6 @@
 -- Written by .ci/contracts --write: for each function of src/size.rt, that any two results that its contract allows are the same.
-use mathlib.Core.List.{List}
-use Prim.Native.Nat.{ℕ}
-use mathlib.Core.Path.{◌≡◌ as ◌is◌, ◌≡◌}
+use Rattle.std.specs.Prelude.{List, ℕ, ◌≡◌ as ◌is◌, ◌≡◌, length}
 use Rattle.laws.specs.Once.{equal_once}
-use lib.ListN.{length}
 use Rattle.plan.specs.Records.{route_of}
 use Rattle.plan.specs.File.{counted_file, entry_file, file_of, route_file}
 use Rattle.plan.specs.Image.{plan_of}
