@@ -27,7 +27,7 @@ use Rattle.events.specs.Answers.{refusal_values, harm_values, deed_values, answe
 use Rattle.events.specs.Events.{event_of, first_event, events_of}
 use Rattle.events.specs.Decide.{has_train, is_red, is_green, is_reverse, busy, held_other, derails, stands, busy_train, held_point, derailed_point, front_of, in_plan, way_out, runs_through}
 use Rattle.events.specs.Decide.{answer_request, answer_cancel, answer_enter, move_to, move_from, answer_move, decided, answer}
-use Rattle.events.proofs.Facts.{get_d_none, few_tracks_lem, few_signals, few_routes, home_below, start_below, entry_below, out_below}
+use Rattle.events.proofs.Facts.{get_or_none, few_tracks_lem, few_signals, few_routes, home_below, start_below, entry_below, out_below}
 use Rattle.events.proofs.Busy.{unless_train_ind, busy_train_at}
 use Rattle.events.proofs.Reflect.{red_at_lem}
 use Rattle.codes.specs.Decoding.{Byte, ByteEvent}
@@ -81,7 +81,7 @@ Fit a = All Byte (answer_values a)
 
 module _ (p : Plan) (R : Readable p) (σ : State) (bytes : All Byte σ.trains) where
   train_byte : (u : ℕ) → Byte (get_or σ.trains u no_train)
-  train_byte u = elim (below? u (length σ.trains)) [ inl h ↦ all_at Byte σ.trains u no_train bytes h | inr h ↦ rw (get_d_none σ.trains u no_train h) (lit≤ tt) ]
+  train_byte u = elim (below? u (length σ.trains)) [ inl h ↦ all_at Byte σ.trains u no_train bytes h | inr h ↦ rw (get_or_none σ.trains u no_train h) (lit≤ tt) ]
 
   track_byte : (u : ℕ) → u < length p.tracks → Byte u
   track_byte u h = let k = few_tracks_lem p R in omega arith

@@ -11,7 +11,7 @@ use Rattle.plan.specs.Records.{Plan, no_route, route_of}
 use Rattle.plan.specs.Layout.{StandsAt, stands_at}
 use Rattle.plan.specs.Routes.{listed, Listed, Releases, releases}
 use Rattle.plan.proofs.Says.{stands_is, listed_is, releases_is}
-use Rattle.events.proofs.Facts.{get_d_none}
+use Rattle.events.proofs.Facts.{get_or_none}
 
 -- a statement holds or doesn't
 abbrev pub Either : Type 0 → Type 0
@@ -35,7 +35,7 @@ module _ (p : Plan) where
     unfolding route_of
     releases_below w = elim (below? r (length p.routes)) [
       | inl h ↦ h
-      | inr h ↦ (let z : w.0 < 0 = rw (get_d_none p.routes r no_route h) at w.1 in absurd (omega arith))
+      | inr h ↦ (let z : w.0 < 0 = rw (get_or_none p.routes r no_route h) at w.1 in absurd (omega arith))
     ]
 
   pub stands_at? : (u s : ℕ) → Either (StandsAt p u s)

@@ -17,10 +17,10 @@ use Rattle.plan.specs.File.{Rises, ReadableTrack, ReadableRoute, ReadableEntry, 
 use Rattle.plan.proofs.Says.{out_names, point_below}
 
 -- past the end of a list stands what stands for nothing
-pub get_d_none : {A : Type 0} (l : List A) (i : ℕ) (d : A) → length l ≤ i → get_or l i d ≡ d
-get_d_none [] i d h = refl
-get_d_none (a ∷ l) zero d h = absurd (omega arith)
-get_d_none (a ∷ l) (suc i) d h = get_d_none l i d (omega arith)
+pub get_or_none : {A : Type 0} (l : List A) (i : ℕ) (d : A) → length l ≤ i → get_or l i d ≡ d
+get_or_none [] i d h = refl
+get_or_none (a ∷ l) zero d h = absurd (omega arith)
+get_or_none (a ∷ l) (suc i) d h = get_or_none l i d (omega arith)
 
 -- what is so of each of a list is so of each that the list has
 pub each_in : (ok : ℕ → Type 0) (l : List ℕ) → All ok l → (x : ℕ) → In x l → ok x

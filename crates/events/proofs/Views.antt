@@ -22,7 +22,7 @@ use Rattle.state.specs.declared.State.{State}
 use Rattle.state.specs.Holds.{adding}
 use Rattle.state.specs.State.{no_train, red, green_for, train_at, lie_at, held_by, shown_at, WellFormed}
 use Rattle.state.proofs.Holds.{only_empty, member_adding, member_adding_other}
-use Rattle.state.proofs.Formed.{get_d_beyond}
+use Rattle.state.proofs.Formed.{get_or_beyond}
 use Rattle.events.specs.declared.Refusal.{Refusal}
 use Rattle.events.specs.declared.Deed.TheVariants.{Granted, Cancelled, Entered, Moved, Left}
 use Rattle.events.specs.declared.Answer.TheVariants.{Refused}
@@ -37,7 +37,7 @@ use Rattle.events.proofs.Cases.{releases_below}
 cell : (n : ℕ) (g : ℕ → ℕ) (i : ℕ) → (n ≤ i → g i ≡ 0) → get_or (tab n g) i 0 ≡ g i
 cell n g i h = elim (below? i n) [
   | inl k ↦ get_or_tab n g i 0 k
-  | inr k ↦ get_d_beyond (tab n g) i (rw (length_tab n g) k) ∙ sym (h k)
+  | inr k ↦ get_or_beyond (tab n g) i (rw (length_tab n g) k) ∙ sym (h k)
 ]
 
 -- Holds dropped of several routes.
@@ -275,7 +275,7 @@ module _ (p : Plan) (R : Readable p) (σ : State) (W : WellFormed p σ) where
       front = tab most_tracks (stood train v σ.trains)
 
       end : (x : ℕ) → most_tracks ≤ x → get_or front x 0 ≡ 0
-      end x f = get_d_beyond front x (rw (length_tab most_tracks (stood train v σ.trains)) f)
+      end x f = get_or_beyond front x (rw (length_tab most_tracks (stood train v σ.trains)) f)
 
   -- Left.
   pub after_leaving : (train u : ℕ) → AfterLeaving p σ (after_deed p σ (Left train u)) u

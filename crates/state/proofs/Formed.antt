@@ -22,10 +22,10 @@ use Rattle.state.specs.State.{normal_lie, reverse_lie, green_for, train_at, lie_
 use Rattle.state.proofs.Holds.{within_beyond, beyond_within, only_empty, member_some}
 
 -- Past the end of a list there is nothing.
-pub get_d_beyond : (l : List ℕ) (i : ℕ) → length l ≤ i → get_or l i 0 ≡ 0
-get_d_beyond [] i h = refl
-get_d_beyond (a ∷ l) zero h = absurd (omega arith)
-get_d_beyond (a ∷ l) (suc i) h = get_d_beyond l i (omega arith)
+pub get_or_beyond : (l : List ℕ) (i : ℕ) → length l ≤ i → get_or l i 0 ≡ 0
+get_or_beyond [] i h = refl
+get_or_beyond (a ∷ l) zero h = absurd (omega arith)
+get_or_beyond (a ∷ l) (suc i) h = get_or_beyond l i (omega arith)
 
 -- No train twice.
 
@@ -36,7 +36,7 @@ once_apart l e u v h k q = elim (below? v (length l)) [
       let z : u + 1 + (v - (u + 1)) ≡ v = omega arith in
       let m = in_has (get_or l u 0) (drop (u + 1) l) (v - (u + 1), rw (length-drop (u + 1) l) (omega arith), get_or-drop (u + 1) l (v - (u + 1)) 0 ∙ ap (λ (j : ℕ). get_or l j 0) z ∙ sym q) in
       clash (and_i _ _ (not_i _ (ne_eqb (get_or l u 0) 0 k)) m) w)
-  | inr b ↦ k (q ∙ get_d_beyond l v b)
+  | inr b ↦ k (q ∙ get_or_beyond l v b)
 ]
 
 apart_once : (l : List ℕ) → ((u v : ℕ) → u < v → get_or l u 0 ≢ 0 → get_or l u 0 ≢ get_or l v 0) → Is (once l)
@@ -60,7 +60,7 @@ empty_from_at n l e i h = elim (below? i (length l)) [
   | inl b ↦ (let k : i - n < length (drop n l) = rw (length-drop n l) (omega arith) in
       let z : n + (i - n) ≡ i = omega arith in
       ap (λ (j : ℕ). get_or l j 0) (sym z) ∙ sym (get_or-drop n l (i - n) 0) ∙ eqb-true _ 0 (all_of_at (λ x. eqb x 0) (drop n l) (i - n) 0 e k))
-  | inr b ↦ get_d_beyond l i b
+  | inr b ↦ get_or_beyond l i b
 ]
 
 at_empty_from : (n : ℕ) (l : List ℕ) → ((i : ℕ) → n ≤ i → get_or l i 0 ≡ 0) → Is (empty_from n l)
@@ -69,7 +69,7 @@ at_empty_from n l h = all_of_all (λ x. eqb x 0) (drop n l) 0 (λ i k. eq-eqb _ 
 
 -- What holds of every element holds of every cell, where it holds of the empty one.
 all_of_cell : (f : ℕ → Bool) (l : List ℕ) → Is (f 0) → Is (all_of f l) → (i : ℕ) → Is (f (get_or l i 0))
-all_of_cell f l z e i = elim (below? i (length l)) [ inl b ↦ all_of_at f l i 0 e b | inr b ↦ rw (get_d_beyond l i b) z ]
+all_of_cell f l z e i = elim (below? i (length l)) [ inl b ↦ all_of_at f l i 0 e b | inr b ↦ rw (get_or_beyond l i b) z ]
 
 -- Only points are held or reverse.
 
@@ -287,7 +287,7 @@ passes p σ w = of_tests p σ (record {
 empty_cell : (n i : ℕ) → get_or {A = ℕ} (replicate n 0) i 0 ≡ 0
 empty_cell n i = elim (below? i n) [
   | inl h ↦ get_or-replicate n i 0 0 h
-  | inr h ↦ get_d_beyond (replicate n 0) i (rw (length-replicate {A = ℕ} n 0) h)
+  | inr h ↦ get_or_beyond (replicate n 0) i (rw (length-replicate {A = ℕ} n 0) h)
 ]
 
 pub fresh_formed : (p : Plan) → WellFormed p fresh
