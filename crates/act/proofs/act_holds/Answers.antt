@@ -32,8 +32,7 @@ returns-in-Cancelled c =
 
 pub returns-in-Moved : goal.returns-in-Moved
 returns-in-Moved c =
-    moved_holds _ _ _ c.requires.1
-    c.in-Moved.is c.arrive.ensures
+    search (moved_holds)
 
 pub returns-in-Entered : goal.returns-in-Entered
 returns-in-Entered c = holds_kept _ _ c.args.deed c.in-Entered.is

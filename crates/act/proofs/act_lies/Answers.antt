@@ -7,7 +7,7 @@ use Rattle.act.proofs.Acts.{lies_kept, granted_lies}
 use Rattle.act.proofs.act_lies.Goals as goal
 
 pub returns-in_default : goal.returns-in_default
-returns-in_default c = lies_kept _ _ c.args.deed c.in_default.not-Granted
+returns-in_default c = search (lies_kept)
 
 pub turn-requires : goal.turn-requires
 turn-requires c =
