@@ -1,4 +1,4 @@
-//! With the feature `boxed`: where the box's library stands, which `rt staticlib signalbox` writes.
+//! With the feature `boxed`: where the box's library stands, which `./library` in the top folder writes.
 
 fn main() {
     if std::env::var_os("CARGO_FEATURE_BOXED").is_some() {
@@ -9,7 +9,7 @@ fn main() {
         println!("cargo:rerun-if-changed={library}");
         if !std::path::Path::new(&library).exists() {
             // Kinder than what the linker says.
-            let how = "`rt staticlib signalbox` in the top folder writes it";
+            let how = "`./library` in the top folder writes it";
             println!("cargo::error=there is no {library}: {how}");
         }
         let target = std::env::var("CARGO_CFG_TARGET_ARCH").expect("cargo says what it builds for");

@@ -5,7 +5,7 @@
 pub const IS_LINKED: bool = cfg!(feature = "boxed");
 
 const NOT_LINKED: &str =
-    "the box is not linked (to link it: `rt staticlib signalbox` in the top folder, \
+    "the box is not linked (to link it: `./library` in the top folder, \
      then `cargo build --release --offline --features boxed` in second/, \
      or on Arm what second/README.md has)";
 

@@ -43,7 +43,7 @@ fn says_whether_linked(line: &str, due: &str) {
     assert!(line.starts_with(due), "{line}");
     for words in [
         "the box is not linked",
-        "`rt staticlib signalbox`",
+        "`./library`",
         "`cargo build --release --offline --features boxed`",
     ] {
         assert_eq!(line.contains(words), !boxed, "{line}");
