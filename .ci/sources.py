@@ -208,7 +208,8 @@ def unread(text):
 def rooms_below(root):
     """The crates in the order of crates.txt, each with those that it names."""
     lines = (line.partition(':') for line in (Path(root) / 'crates.txt').read_text().split('\n') if line.strip() and not line.startswith('#'))
-    return {room.strip(): below.split() for room, _, below in lines}
+    # a static library has a word more before the colon
+    return {room.split()[0]: below.split() for room, _, below in lines}
 
 
 def rooms(root):

@@ -12,13 +12,16 @@ ghost use Rattle.state.specs.Cells.{state_in};
 ghost use Rattle.bench.specs.Serving.{piece_most, lines_most, Serves, Took, Turned, ServedOn, Ended};
 
 use events::unfinished::UNFINISHED;
-use libc::{STDIN_FILENO, STDOUT_FILENO};
 use lines::LINE;
 use plan::limits::{IMAGE, TRACKS};
 use signalbox::{
     signalbox_feed, signalbox_finish, signalbox_fresh, signalbox_open, signalbox_read,
 };
 use state::cells::CELLS;
+use std::fs::File;
+use std::io;
+use std::io::{Cursor, Read, Write};
+use std::rt::Files;
 
 // One byte more than the longest plan: a longer file gets the answer of these.
 const PLAN: usize = IMAGE + 1;
@@ -28,30 +31,37 @@ const PIECE: usize = 3072;
 
 const LINES: usize = (PIECE + 2) / 3 * LINE;
 
+// More than the longest reason that the system gives.
+const REASON: usize = 256;
+
 // The plan file's bytes. A file that can't be opened, or not read to its end, counts as empty.
-fn load(plan: &mut [u8; PLAN]) -> usize
+fn load(rt: &(impl Files + Eprint), plan: &mut [u8; PLAN]) -> usize
     ensures { result ≤ length plan.new }
 {
-    let file = os::open_read(b"plan.bin");
-    if file < 0 {
-        os::fail(b"bench: plan.bin can't be opened, and counts as empty");
-        return 0;
+    match File::open(rt, "plan.bin") {
+        Ok(mut file) => fill(rt, &mut file, &mut plan[..]),
+        Err(error) => {
+            fail(
+                rt,
+                "bench: plan.bin can't be opened, and counts as empty",
+                error,
+            );
+            0
+        }
     }
-    let length = fill(file, &mut plan[..]);
-    libc::close(file);
-    length
 }
 
 // Reads until the memory is full or the file ends.
-fn fill(file: i32, bytes: &mut [u8]) -> usize
+fn fill(rt: &impl Eprint, file: &mut impl Read, bytes: &mut [u8]) -> usize
     ensures { result ≤ length bytes.new }
 {
     let mut done = 0;
     while done < bytes.len() {
         let piece = next(
+            rt,
             file,
             &mut bytes[done..],
-            b"bench: plan.bin can't be read, and counts as empty",
+            "bench: plan.bin can't be read, and counts as empty",
         );
         if piece.failed {
             return 0;
@@ -73,40 +83,61 @@ pub struct Piece {
 }
 
 // One read. Where it fails, that is told in these words.
-fn next(file: i32, bytes: &mut [u8], failure: &[u8]) -> Piece
+fn next(rt: &impl Eprint, from: &mut impl Read, bytes: &mut [u8], failure: &str) -> Piece
     ensures { Took result bytes.new }
 {
-    let got = libc::read(file, bytes);
-    if got < 0 {
-        os::fail(failure);
-        return Piece {
-            read: 0,
-            failed: true,
-        };
+    match from.read(bytes) {
+        Ok(read) => Piece {
+            read,
+            failed: false,
+        },
+        Err(error) => {
+            fail(rt, failure, error);
+            Piece {
+                read: 0,
+                failed: true,
+            }
+        }
     }
-    let read = io::count(got, bytes);
-    Piece {
-        read,
-        failed: false,
+}
+
+// Tells on standard error what can't be done, and why: in the system's words, without the number that stands after them. Where that can't be written
+// either, nothing is told.
+fn fail(rt: &impl Eprint, what: &str, error: io::Error) {
+    let mut reason = Cursor::new([0u8; REASON]);
+    let _ = write!(reason, "{error}");
+    let reason = reason.into_inner();
+    if let Ok(reason) = str::from_utf8(&reason) {
+        if let Some((words, _)) = reason.split_once(" (os error ") {
+            let _ = eprintln!(rt; "{what}: {words}");
+            return;
+        }
     }
+    let _ = eprintln!(rt; "{what}: {error}");
 }
 
 // Whether all of it could be written to standard output.
-fn print(lines: &[u8]) -> bool {
-    if io::write_all(STDOUT_FILENO, lines) {
-        return true;
+fn print(rt: &(impl Print + Eprint), lines: &[u8]) -> bool {
+    match rt.write_all(lines) {
+        Ok(()) => true,
+        Err(error) => {
+            fail(
+                rt,
+                "bench: standard output can't be written, and no more is played",
+                error,
+            );
+            false
+        }
     }
-    os::fail(b"bench: standard output can't be written, and no more is played");
-    false
 }
 
-fn main() {
+fn main(rt: HostRuntime) {
     let mut plan = [0u8; PLAN];
-    let length = load(&mut plan);
+    let length = load(&rt, &mut plan);
     let file = &plan[..length];
     let mut first = [0u8; LINE];
     let count = first_line(file, &mut first[..]);
-    let printed = print(&first[..count]);
+    let printed = print(&rt, &first[..count]);
     if !printed {
         return;
     }
@@ -117,13 +148,13 @@ fn main() {
     let mut holds = [0u64; TRACKS];
     let mut unfinished = [0u8; UNFINISHED];
     signalbox_fresh(&mut cells, &mut holds, &mut unfinished);
-    let service = serve(file, &mut cells, &mut holds, &mut unfinished);
+    let service = serve(&rt, file, &mut cells, &mut holds, &mut unfinished);
     if !service.ended {
         return;
     }
     let mut last = [0u8; LINE];
     let more = last_line(file, &mut cells, &mut holds, &mut unfinished, &mut last[..]);
-    print(&last[..more]);
+    print(&rt, &last[..more]);
 }
 
 // The line for the plan.
@@ -160,6 +191,7 @@ pub struct Service {
 
 // Turn after turn until the input ends, the lines of each written before the next one. It goes on from what it is lent, whatever that is.
 fn serve(
+    rt: &(impl Input + Print + Eprint),
     plan: &[u8],
     cells: &mut [u8; CELLS],
     holds: &mut [u64; TRACKS],
@@ -174,6 +206,7 @@ fn serve(
         let mut bytes = [0u8; PIECE];
         let mut lines = [0u8; LINES];
         let done = turn(
+            rt,
             plan,
             cells,
             holds,
@@ -182,7 +215,7 @@ fn serve(
             &mut lines[..],
         );
         let written = done.written;
-        let printed = print(&lines[..written]);
+        let printed = print(rt, &lines[..written]);
         let read = done.read;
         total += read;
         if !printed || done.failed {
@@ -209,6 +242,7 @@ pub struct Exchange {
 
 // One read into the lent memory, and the lines of the events that it makes whole.
 fn turn(
+    rt: &(impl Input + Eprint),
     plan: &[u8],
     cells: &mut [u8; CELLS],
     holds: &mut [u64; TRACKS],
@@ -221,10 +255,12 @@ fn turn(
     requires lines_most_in_bounds { lines_most ≤ length lines.old }
     ensures { Turned (parse plan.now) (state_in cells.old holds.old) unfinished.old lines.old result (state_in cells.new holds.new) unfinished.new bytes.new lines.new }
 {
+    let mut input = rt.reader();
     let piece = next(
-        STDIN_FILENO,
+        rt,
+        &mut input,
         bytes,
-        b"bench: standard input can't be read, and no more is played",
+        "bench: standard input can't be read, and no more is played",
     );
     let read = piece.read;
     let fed = signalbox_feed(plan, cells, holds, unfinished, &bytes[..read], lines);

@@ -37,8 +37,7 @@ pub struct Outcome {
 }
 
 // Reads a file into the lent image: 0, or its form's number and offset, and the image is then as it was.
-#[unsafe(no_mangle)]
-pub extern "C" fn signalbox_load(file: &[u8], image: &mut [u8; IMAGE]) -> u64
+pub fn signalbox_load(file: &[u8], image: &mut [u8; IMAGE]) -> u64
     ensures { Loaded file.now image.old result image.new }
 {
     let seen = load(file, image);
@@ -49,8 +48,7 @@ pub extern "C" fn signalbox_load(file: &[u8], image: &mut [u8; IMAGE]) -> u64
 }
 
 // Whether a file is a plan: 0, or its form's number and offset.
-#[unsafe(no_mangle)]
-pub extern "C" fn signalbox_read(file: &[u8]) -> u64
+pub fn signalbox_read(file: &[u8]) -> u64
     ensures { result ≡ read_code (parse file.now) }
 {
     let mut image = [0u8; IMAGE];
@@ -59,8 +57,7 @@ pub extern "C" fn signalbox_read(file: &[u8]) -> u64
 
 // Writes an image as the file that reads as it: its length, or 7 where there is none, or 6 where it is longer than the lent memory, which is then
 // as it was.
-#[unsafe(no_mangle)]
-pub extern "C" fn signalbox_write(image: &[u8; IMAGE], out: &mut [u8]) -> u64
+pub fn signalbox_write(image: &[u8; IMAGE], out: &mut [u8]) -> u64
     ensures { Filed image.now out.old result out.new }
 {
     let answer = write(image, out);
@@ -68,8 +65,7 @@ pub extern "C" fn signalbox_write(image: &[u8; IMAGE], out: &mut [u8]) -> u64
 }
 
 // Whether a file is a plan that is accepted: 200, or its form's number and offset, or the broken rule's number and row.
-#[unsafe(no_mangle)]
-pub extern "C" fn signalbox_check(file: &[u8]) -> u64
+pub fn signalbox_check(file: &[u8]) -> u64
     ensures { result ≡ check_code (parse file.now) }
 {
     let mut image = [0u8; IMAGE];
@@ -81,8 +77,7 @@ pub extern "C" fn signalbox_check(file: &[u8]) -> u64
 }
 
 // The fresh state, and no byte of an unfinished event, whatever the memory held.
-#[unsafe(no_mangle)]
-pub extern "C" fn signalbox_fresh(
+pub fn signalbox_fresh(
     cells: &mut [u8; CELLS],
     holds: &mut [u64; TRACKS],
     unfinished: &mut [u8; UNFINISHED],
@@ -109,8 +104,7 @@ fn ready(file: &[u8], cells: &[u8; CELLS], holds: &[u64; TRACKS], image: &mut [u
 }
 
 // One event: the code of its answer, and the state after it. Fewer than three bytes are an incomplete event.
-#[unsafe(no_mangle)]
-pub extern "C" fn signalbox_step(
+pub fn signalbox_step(
     file: &[u8],
     cells: &mut [u8; CELLS],
     holds: &mut [u64; TRACKS],
@@ -128,8 +122,7 @@ pub extern "C" fn signalbox_step(
 }
 
 // All events of bytes, an incomplete last one too: the code of each answer, and the state after them.
-#[unsafe(no_mangle)]
-pub extern "C" fn signalbox_run(
+pub fn signalbox_run(
     file: &[u8],
     cells: &mut [u8; CELLS],
     holds: &mut [u64; TRACKS],
@@ -166,8 +159,7 @@ pub extern "C" fn signalbox_run(
 }
 
 // The first line that the program prints: the form, the broken rule or `accepted`.
-#[unsafe(no_mangle)]
-pub extern "C" fn signalbox_open(file: &[u8], out: &mut [u8]) -> Outcome
+pub fn signalbox_open(file: &[u8], out: &mut [u8]) -> Outcome
     ensures { Opened (parse file.now) out.old result out.new }
 {
     if out.len() / LINE < 1 {
@@ -188,8 +180,7 @@ pub extern "C" fn signalbox_open(file: &[u8], out: &mut [u8]) -> Outcome
 
 // The next bytes of the input, cut anywhere: the line of every event that they make whole, and the state after them; what is left over is
 // unfinished then.
-#[unsafe(no_mangle)]
-pub extern "C" fn signalbox_feed(
+pub fn signalbox_feed(
     file: &[u8],
     cells: &mut [u8; CELLS],
     holds: &mut [u64; TRACKS],
@@ -233,8 +224,7 @@ pub extern "C" fn signalbox_feed(
 }
 
 // The end of the input: the line of an incomplete event where one is unfinished, and none is then.
-#[unsafe(no_mangle)]
-pub extern "C" fn signalbox_finish(
+pub fn signalbox_finish(
     file: &[u8],
     cells: &mut [u8; CELLS],
     holds: &mut [u64; TRACKS],
