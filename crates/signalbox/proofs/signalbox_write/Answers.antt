@@ -1,7 +1,12 @@
 -- `signalbox::signalbox_write`: what writing answers, as its code, and what it leaves.
 use mathlib.Core.Path.{ap, ◌∙◌}
+use lib.ListN.{length}
 use Rattle.codes.specs.Codes.{written_code}
+use Rattle.writing.proofs.Answers.{after_long}
 use Rattle.signalbox.proofs.signalbox_write.Goals as goal
+
+pub shape_of-out : goal.shape_of-out
+shape_of-out c = ap length c.write-answer.ensures.1 ∙ after_long c.args.image.now c.args.out.now
 
 pub returns : goal.returns
 returns c =
