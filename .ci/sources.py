@@ -206,9 +206,8 @@ def unread(text):
 
 
 def rooms_below(root):
-    """The crates in the order of crates.txt, each with those that it names."""
+    """The crates in the order of crates.txt, each with those that it names. What stands after a name says how it is built."""
     lines = (line.partition(':') for line in (Path(root) / 'crates.txt').read_text().split('\n') if line.strip() and not line.startswith('#'))
-    # a static library has a word more before the colon
     return {room.split()[0]: below.split() for room, _, below in lines}
 
 
