@@ -1,10 +1,11 @@
 -- The answer of writing in the steps that the code takes, and what the lent memory then holds. Assumes nothing.
-use mathlib.Core.Path.{◌≡◌, sym, ◌∙◌}
+use mathlib.Core.Path.{◌≡◌, refl, sym, ◌∙◌}
 use mathlib.Core.Logic.{◌⊎◌, inl, inr}
 use mathlib.Core.Bool.{Bool, true, false}
 use mathlib.Core.List.{List}
 use Prim.Native.Nat.{ℕ, ◌<◌, ◌≤◌}
-use lib.ListN.{length}
+use native.Mathlib.Omega.{arith}
+use lib.ListN.{length, length-append, length-drop}
 use borrow.Author.Tests.{lt-ltb, le-ltb}
 use Rattle.laws.specs.Tests.{Is, split, below?, never}
 use Rattle.laws.specs.Written.{Wrote, front_sets}
@@ -66,3 +67,13 @@ module _ (image out : List ℕ) {answer : Written} (e : answer ≡ written image
   pub left_written : {size next : ℕ} {after : List ℕ} → answer ≡ Whole size → Wrote (file_of (plan_of image)) out 0 after next → after ≡ after_writing image (written image (length out)) out
   unfolding after_writing file_in
   left_written w s = rw (← e, w) (s.written ∙ front_sets out (file_of (plan_of image)) (has_room image (length out) e w))
+
+-- The memory stays as long as it was.
+pub after_long : (image out : List ℕ) → length (after_writing image (written image (length out)) out) ≡ length out
+unfolding after_writing
+after_long image out = go (outcome image (length out))
+  where
+    go : {w : Written} → Outcome image (length out) w → length (after_writing image w out) ≡ length out
+    go (unread n) = refl
+    go (short y h) = refl
+    go (full y h) = simp (length-append, length-drop) (omega arith)
