@@ -1,6 +1,6 @@
 -- What can be read from a code: the sort of outcome that it stands for, and the outcome itself. No two outcomes that can come have the same code,
 -- and nothing of what can come is cut where it is put into a byte. Proved in proofs/Decoded.antt. Which values each number has stands in
--- events/specs/Answers.antt (`answerValues`).
+-- events/specs/Answers.antt (`answer_values`).
 use Rattle.std.specs.Prelude.{◌≡◌, ◌⊎◌, List, [], ◌∷◌, ℕ, zero, suc, ◌+◌, ◌/◌, ◌%◌, ◌<◌, ◌≤◌, length}
 use Rattle.laws.specs.Lists.{All}
 use Rattle.plan.specs.Limits.{image_size}

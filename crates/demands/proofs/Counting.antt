@@ -51,7 +51,7 @@ pub once_other : (u v : ℕ) → u ≢ v → once_at u (At v) ≡ 0
 unfolding once_at
 once_other u v d = rw (ne_eqb u v d)
 
--- `deedArrives` is opened too, so that counts that go by arrivals fail at what is then not true
+-- `deed_arrives` is opened too, so that counts that go by arrivals fail at what is then not true
 balance : (p : Plan) (σ τ : State) (a : Answer) → Told p σ a → Follows p σ τ a → (x : ℕ) → comes x a + shown σ x ≡ goes x a + shown τ x
 unfolding once_at deed_comes deed_leaves deed_arrives
 balance p σ τ (Refused refusal) t f x = rw f

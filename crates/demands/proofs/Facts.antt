@@ -1,4 +1,4 @@
--- What a readable and sound plan gives, in the form in which the proofs use it. With `trackAt r 0` the home of route r, and its path from 1 on.
+-- What a readable and sound plan gives, in the form in which the proofs use it. With `track_at r 0` the home of route r, and its path from 1 on.
 use mathlib.Core.Path.{◌≡◌, refl, sym}
 use mathlib.Core.Logic.{inl, inr}
 use Prim.Native.Nat.{ℕ, zero, suc, ◌<◌, ◌≤◌}

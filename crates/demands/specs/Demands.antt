@@ -2,7 +2,7 @@
 -- sentences of document 01). Each is followed by the theorem, in proofs/, that speaks of it. The page rests on these definitions, and on nothing else:
 --   plan/specs/Limits.antt       the numbers of document 01: how many of each a plan may have
 --   plan/specs/Records.antt      Plan; plan/specs/Kinds.antt: Plain, Exit, Forks, Legged, is_point, out, leg, uses, what a track is
---   plan/specs/Layout.antt       Leads, Home, StandsAt; plan/specs/Routes.antt: track_at, pointsOf, Listed, Released, Releases, what a route says
+--   plan/specs/Layout.antt       Leads, Home, StandsAt; plan/specs/Routes.antt: track_at, points_of, Listed, Released, Releases, what a route says
 --   plan/specs/File.antt         file_of, the file of a plan, and Readable, the plans that a file can hold
 --   plan/specs/Image.antt        image_of, the memory of a plan, and plan_of, the plan that any memory shows
 --   writing/src/lib.rt           Written, what a writer answers; writing/specs/Writing.antt: its numbers
@@ -15,7 +15,7 @@
 --                                document's numbers of a Verdict (rules/src/lib.rt)
 --   state/specs/State.antt       State (state/src/lib.rt) and its views train_at, HasTrain, lie_at, normal_lie, reverse_lie, Holds; fresh; WellFormed
 --   events/src/lib.rt            Event, Answer, Refusal, Met, Harm, Deed; events/specs/Events.antt: events_of, the events of any bytes
---   events/specs/Answers.antt    comes_on, arrives_on, leavesFrom: where an answer, if it is a deed (if_done), brings a train or takes one away
+--   events/specs/Answers.antt    comes_on, arrives_on, leaves_from: where an answer, if it is a deed (if_done), brings a train or takes one away
 --   events/specs/Meaning.antt    Given, the table of answers, and of its sentences Busy, OtherLie, SignalRed, InPlan; Follows, what a state shows after an
 --                                answer, and AfterGrant after a grant; SameTrains and so on; Alike; clear_for and Meets, what is met on the clear list of an event
 --   laws/specs/Answers.antt      Table, the rows of a table of answers, and Gives, the answer that it gives; None, LowestSuch
@@ -121,7 +121,7 @@ OneWriting =
     (read : List ℕ → Got Plan) (writer other : Writer) → Reads read → Writes read writer → Writes read other → (image out : List ℕ) → length image ≡ image_size
     → (writer.answer image out ≡ other.answer image out) × (writer.leaves image out ≡ other.leaves image out)
 
--- Every writer that meets it gives back what was read, and what is read back is what it was given (proofs/Writing.antt, round-trip).
+-- Every writer that meets it gives back what was read, and what is read back is what it was given (proofs/Writing.antt, round_trip).
 pub record RoundTrip (read : List ℕ → Got Plan) (writer : Writer) : Type 0 where
   -- reading what was written gives the same plan, and the same image
   pub again : (image out : List ℕ) (size : ℕ) → length image ≡ image_size → writer.answer image out ≡ Whole size

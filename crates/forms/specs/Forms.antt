@@ -60,7 +60,7 @@ any_order sort before then = number sort before λ v. then none
 unfoldable pub rising : Sort → Row
 rising sort before then = number sort before λ v. then (after v)
 
--- 1. Tracks, 1 to 64 (the counts of the four sections stand in `planFile`). Four bytes each: kind and three numbers. What follows the rows is given all
+-- 1. Tracks, 1 to 64 (the counts of the four sections stand in `plan_file`). Four bytes each: kind and three numbers. What follows the rows is given all
 -- kinds, which say where the points are. Which number is which way out or leg stands in Rows.antt.
 
 -- what the three numbers are, by kind; a kind above 3 is not right, so that nothing is asked of what follows it

@@ -1,4 +1,4 @@
--- Every line of every answer, verdict and form is at most `lineMost` bytes long, and by its words that of 13 can be so long.
+-- Every line of every answer, verdict and form is at most `line_most` bytes long, and by its words that of 13 can be so long.
 use mathlib.Core.Path.{◌≡◌, refl}
 use mathlib.Core.List.{List, [], ◌∷◌, ◌++◌}
 use Prim.Native.Nat.{ℕ, ◌+◌, ◌≤◌}

@@ -1,4 +1,4 @@
--- One event by `step` and by `run`: the same event, the same answer and, both by `stateAfter`, the same state. A run hands back how many events it
+-- One event by `step` and by `run`: the same event, the same answer and, both by `state_after`, the same state. A run hands back how many events it
 -- played. Assumes nothing.
 use mathlib.Core.Path.{◌≡◌, refl, sym, ap, ◌∙◌}
 use mathlib.Core.List.{List, [], ◌∷◌}
