@@ -5,7 +5,7 @@ usage: tools/respell.py [--check]        at the top of the repository, once, rig
 
 A name turns that a file of specs/ or proofs/ declares, in the texts of antt, in the clauses and `ghost use` items of Rattle and in the code spans of the
 pages. What a library declares stays, and so does a name in a file that imports that very name from a library. Types, modules, functions of src/ and file
-names stay. A proof file of one function (Proof.antt) has names that the prover made: there only what the repository declares turns.
+names stay. A proof file of one function (Proof.antt, or today Invariants.antt and Answers.antt) has names that the prover made: there only what the repository declares turns.
 Names that would fall together are told, and then nothing is written.
 """
 
@@ -24,7 +24,7 @@ PATH = re.compile(r"\bRattle(?:\.[^\s(){}.;,@\"«»]+)+")
 OF_RATTLE = re.compile(r"Rattle\.(?!std\b|core\b|io\b|libc\b|os\b)")
 CLAUSE = re.compile(r"\b(?:requires|ensures)\s*\*?\s*(?:\w+\s*)?\{|\bghost\s+\w+\s*:\s*\{")
 GHOST_USE = re.compile(r"ghost\s+use\b[^;]*;")
-OF_ONE = ("/Proof.antt", "/Answers.antt", "/Invariants.antt")
+OF_ONE = re.compile(r"crates/\w+/proofs/.+/(?:Proof|Answers|Invariants)\.antt")
 SPAN = re.compile(r"`[^`\n]+`")
 
 
@@ -63,7 +63,7 @@ def table(paths):
     """What the repository declares in an old spelling: each name with its new one. Where a definition and a lemma would fall together, the lemma gets `_lem`."""
     names = set()
     for p in paths:
-        if not p.endswith(OF_ONE):
+        if not OF_ONE.fullmatch(p):
             text = bare(read(p))
             for m in list(DECLARED.finditer(text)) + list(TELESCOPE.finditer(text)):
                 names |= set(m[1].split())
@@ -132,13 +132,14 @@ def in_page(text, names):
 def pages():
     yield "README.md"
     for folder, _, files in os.walk("docs"):
-        yield from (os.path.join(folder, f) for f in sorted(files) if f.endswith(".md"))
+        # the page on this very change has both spellings
+        yield from (os.path.join(folder, f) for f in sorted(files) if f.endswith(".md") and f != "PORT.md")
 
 
 def main():
     antt = list(texts(".antt"))
     rows = table(antt)
-    told = list(clashes([p for p in antt if not p.endswith(OF_ONE)], rows))
+    told = list(clashes([p for p in antt if not OF_ONE.fullmatch(p)], rows))
     if told:
         print("\n".join(told))
         return 1
