@@ -1,11 +1,11 @@
 -- The public face in the steps that the code takes: the plan is read, the state is tested, an event is decided and acted on. Assumes nothing.
 use mathlib.Core.Path.{◌≡◌, refl, sym, ap, ◌∙◌}
-use mathlib.Core.Bool.{Bool, true, false}
+use mathlib.Core.Bool.{Bool, true, false, not}
 use mathlib.Core.Logic.{inl, inr}
 use mathlib.Core.List.{List, [], ◌∷◌}
 use Prim.Native.Nat.{ℕ}
 use native.Mathlib.Omega.{arith}
-use Rattle.laws.specs.Tests.{split, never}
+use Rattle.laws.specs.Tests.{split, never, not_t, not_f}
 use Rattle.plan.specs.Records.{Plan}
 use Rattle.plan.specs.File.{Readable}
 use Rattle.plan.specs.Image.{plan_of}
@@ -89,13 +89,13 @@ module _ {file image : List ℕ} (w : Read file image) where
 
   -- the state is tested
   module _ (σ : State) {b : Bool} (t : b ≡ well_formed (plan_of image) σ) where
-    pub way_ill : {c : ℕ} → b ≡ false → c ≡ answer_code (Refuses IllFormed) → c ≡ in_the_way (parse file) σ
+    pub way_ill : {c : ℕ} → not b ≡ true → c ≡ answer_code (Refuses IllFormed) → c ≡ in_the_way (parse file) σ
     unfolding in_the_way
-    way_ill h z = let n : well_formed w.plan σ ≡ false = rw w.shows at (sym t ∙ h) in rw (w.parses, n) z
+    way_ill h z = let n : well_formed w.plan σ ≡ false = rw w.shows at (sym t ∙ not_t b h) in rw (w.parses, n) z
 
-    pub way_free : b ≡ true → 0 ≡ in_the_way (parse file) σ
+    pub way_free : not b ≡ false → 0 ≡ in_the_way (parse file) σ
     unfolding in_the_way
-    way_free h = let y : well_formed w.plan σ ≡ true = rw w.shows at (sym t ∙ h) in rw (w.parses, y)
+    way_free h = let y : well_formed w.plan σ ≡ true = rw w.shows at (sym t ∙ not_f b h) in rw (w.parses, y)
 
 -- Nothing is in the way: the plan was read, and the state is well formed.
 pub record Ready (file image : List ℕ) (σ : State) : Type 0 where
