@@ -55,9 +55,9 @@ def taken_by_code(text):
 
 
 def parted(text):
-    """The clauses of a source file, and its code without them, every place where it was."""
+    """The clauses and ghost members of a source file, and its code without them, every place where it was."""
     clauses, code, at = '', '', 0
-    for m in re.finditer(r'\b(?:requires|ensures)\b[^{;]*(?=\{)', text):
+    for m in re.finditer(r'\b(?:requires|ensures|ghost(?!\s+use\b))\b[^{;]*(?=\{)|(?<=\})\s*\bby\s*(?=\{)', text):
         end = closing(text, m.end())
         clauses += re.sub(r'[^\n]', ' ', text[at:m.end()]) + text[m.end():end]
         code += text[at:m.start()] + re.sub(r'[^\n]', ' ', text[m.start():end])
@@ -73,8 +73,10 @@ class Source:
         self.code = file.suffix == '.rt'
         text = file.read_text()
         self.text = blanked(text) if self.code else stripped(text)
+        tactics = re.findall(r'#!?\[tactic\(((?:[^()]|\([^()]*\))*)\)\]', self.text) if self.code else ()
+        self.told = [path.strip() for tactic in tactics for names in re.findall(r'\b(?:using|unfolding)\(([^()]*)\)', tactic) for path in names.split(',')]
         if self.code:
-            self.uses, rest = taken(r'(?m)^ghost use\s+([^;{]*?)(?:\.\{([^}]*)\}|\s+as\s+(\S+))?\s*;', self.text)
+            self.uses, rest = taken(r'(?m)^[ ]*ghost use\s+([^;{]*?)(?:\.\{([^}]*)\}|\s+as\s+(\S+))?\s*;', self.text)
             self.uses += taken_by_code(rest)
             self.body, self.run = parted(rest)
             self.code_names = set(re.findall(r'\w+', re.sub(r'(?m)^use\s+[^;]+;', '', self.run)))

@@ -3,6 +3,7 @@
 import re
 from itertools import groupby
 from names import has, names_in
+from sources import parts, told_by_a_closure
 
 HEAD = """-- Written by .ci/contracts --write: for each function of {source}, that any two results that its contract allows are the same.
 """
@@ -11,6 +12,8 @@ HEAD = """-- Written by .ci/contracts --write: for each function of {source}, th
 NUMBERS = ('u8', 'u16', 'u32', 'u64', 'usize')
 WORDS = 'Rattle.std.specs.Prelude'
 EQUALS = (WORDS, '◌≡◌ as ◌is◌')
+# what a bound gives of a type that a function is generic in, as the contract names it
+MEMBERS = {'eq': '{0} → {0} → Bool'}
 
 
 class Unknown(Exception):
@@ -23,24 +26,43 @@ def module_of(file):
     return f'Rattle.{other}.{part}.{".".join(rest)}'
 
 
+def nested(kind):
+    return f'({kind})' if ' ' in kind else kind
+
+
 class File:
     """The laws of one source file, and what they take from other modules."""
 
     def __init__(self, room, source, uses, ghosts, types):
         self.room, self.source, self.uses, self.ghosts, self.types = room, source, uses, ghosts, types
-        self.taken, self.laws = [], []
+        self.taken, self.laws, self.generics = [], [], ()
 
     def take(self, module, name):
         if (module, name) not in self.taken:
             self.taken.append((module, name))
 
-    def type_of(self, rust, own):
-        """A type of the code as its definitions have it."""
-        plain = re.sub(r"&|'\w+\s|\bmut\b", ' ', rust).strip()
+    def type_of(self, rust, own, within=False):
+        """A type of the code as its definitions have it. What a reference lends has its value where the contract names it, and is lent within another."""
+        lent = re.match(r"\s*&\s*(?:'\w+\s+)?(mut\b\s*)?", rust)
+        plain = rust[lent.end():].strip() if lent else rust.strip()
+        if lent and within:
+            if lent[1]:
+                raise Unknown(f'the type {rust.strip()}')
+            self.take('denote.Bor', 'Bor')
+            return f'Bor {nested(self.type_of(plain, own, True))}'
+        if plain == '()':
+            return 'Unit'
+        if plain in self.generics:
+            return plain
+        if plain.startswith('('):
+            return ' × '.join(nested(self.type_of(part, own, True)) for part in parts(plain[1:-1], ',', angled=True))
+        outer = re.fullmatch(r'(Option|Result)<(.*)>', plain)
+        if outer:
+            self.take(WORDS, outer[1])
+            return ' '.join([outer[1], *(nested(self.type_of(part, own, True)) for part in parts(outer[2], ',', angled=True))])
         if plain.startswith('['):
             self.take(WORDS, 'List')
-            self.take(WORDS, 'ℕ')
-            return 'List ℕ'
+            return f'List {nested(self.type_of(parts(plain[1:-1], ";")[0], own, True))}'
         if plain in NUMBERS:
             self.take(WORDS, 'ℕ')
             return 'ℕ'
@@ -66,6 +88,19 @@ class File:
         return HEAD.format(source=self.source) + '\n'.join(lines) + '\n\n' + body
 
 
+def member_type(file, owner, bound, member, own):
+    """The type of what a bound gives of a type, as the contract names it: of a closure what it may answer, by what it is given."""
+    closure = re.fullmatch(r'Fn\((.*)\)\s*->\s*(.*)', bound)
+    if closure and member == 'post':
+        given = [file.type_of(part, own) for part in parts(closure[1], ',', angled=True) if part] + [file.type_of(closure[2], own)]
+        return ' → '.join([owner, *(nested(kind) for kind in given), 'Type 0'])
+    if closure or member not in MEMBERS:
+        raise Unknown(f'{owner}.{member}, which a bound gives')
+    if 'Bool' in MEMBERS[member]:
+        file.take(WORDS, 'Bool')
+    return MEMBERS[member].format(owner)
+
+
 def other(text):
     """A contract with its results renamed."""
     return re.sub(r"(?<![\w.])r(?![\w'])", 'r₂', re.sub(r"(?<=\w)'", "''", text))
@@ -77,7 +112,14 @@ def law(file, f, found, laws):
     steps = f.path.split('::')
     own = steps[-2] if re.match('[A-Z]', steps[-2]) else None
     name = '_'.join(([own.lower()] if own else []) + [steps[-1]]) + '_once'
-    binders, memories = [], []
+    file.generics = f.generics
+    binders, memories = [(word, 'Type 0') for word in f.generics], []
+    for owner, member in sorted(set(re.findall(rf"(?<![\w.])({'|'.join(f.generics) or '$^'})\.(\w+)", ' '.join(text for _, _, text in found)))):
+        binders.append((f'{owner}_{member}', member_type(file, owner, f.generics[owner], member, own)))
+
+    def named(text):
+        return re.sub(rf"(?<![\w.])({'|'.join(f.generics) or '$^'})\.(?=\w)", r'\1_', text)
+
     for parameter in f.parameters:
         word, _, rust = parameter.partition(':')
         word = word.replace('mut ', '').strip()
@@ -90,18 +132,31 @@ def law(file, f, found, laws):
         binders.append(('r r₂', file.type_of(f.type, own)))
     if memories:
         binders.append((' '.join(f"{m}' {m}''" for m in memories), 'List ℕ'))
-    asked, sized = [], any("state_in cells' holds'" in result for _, results, _ in found for result in results)
+    # what is so for a closure is so for any definition that it answers by, which both results are held to
+    asked, met = [], {}
+    for i, (shape, _, text) in enumerate(found):
+        if shape == 'for a closure':
+            word, kind, said, _ = told_by_a_closure(text)
+            if word in (taken for names, _ in binders for taken in names.split()):
+                raise Unknown(f'a definition {word} for a closure, beside a parameter of that name')
+            binders.append((word, kind))
+            asked.append(named(said))
+            met[i] = f'{word} meets_{word}'
+    found = [(shape, results, named(text)) for shape, results, text in found]
+    sized = any("state_in cells' holds'" in result for _, results, _ in found for result in results)
     if sized:
         file.take(WORDS, 'length')
         file.take(module_of('state/specs/Cells.antt'), 'cells_size')
-        asked = ["length cells' is cells_size", "length cells'' is cells_size"]
+        asked += ["length cells' is cells_size", "length cells'' is cells_size"]
     file.take(*EQUALS)
     names = ' '.join(word for word, _ in binders)
     grouped = [(' '.join(word for word, _ in group), kind) for kind, group in groupby(binders, lambda binder: binder[1])]
-    sizes = ' sized sized_other' if sized else ''
+    sizes = ''.join(f' {one.split()[1]}' for one in met.values()) + (' sized sized_other' if sized else '')
     types, terms = [], []
     for i, (shape, results, text) in enumerate(found):
         one, two = ('by_one', 'by_other') if len(found) == 1 else (f'by_one.{i}', f'by_other.{i}')
+        if i in met:
+            one, two = f'({one} {met[i]})', f'({two} {met[i]})'
         kind, term = applied(file, shape, results, one, two, laws)
         types.append(kind)
         terms.append(term)
@@ -132,9 +187,6 @@ def applied(file, shape, results, one, two, laws):
         return same(results[0]), arrays.format(one, two)
     where, head, term, arity = laws[shape]
     file.take(module_of(where), head)
-    if shape == 'for any':
-        file.take(WORDS, '[]')
-        return same(results[0]), f'{term} [] _ _ _ {one} {two}'
     if arity is None:
         return same(results[0]), f'{term} _ _ _ {one} {two}'
     told = f'{term} {"_ " * (arity + len(results))}{one} {two}'
@@ -147,7 +199,7 @@ def applied(file, shape, results, one, two, laws):
 
 def written(root, ordered, shaped, laws, read_file, rooms):
     """The files of laws, by their path; the name of each function's law with its file; and what could not be written."""
-    types = {room: set(re.findall(r'\bpub (?:struct|enum) (\w+)', '\n'.join(f.read_text() for f in (root / 'crates' / room / 'src').rglob('*.rt')))) for room in rooms}
+    types = {room: set(re.findall(r'\b(?:struct|enum) (\w+)', '\n'.join(f.read_text() for f in (root / 'crates' / room / 'src').rglob('*.rt')))) for room in rooms}
     files, cited, faults = {}, {}, []
     for f in ordered:
         found, loose = shaped[f.path]

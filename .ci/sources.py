@@ -5,6 +5,10 @@ import sys
 from pathlib import Path
 
 
+# pages that tell how the sources came to be what they are: each name stands there beside its older one, and sizes of another time
+BEFORE = ('docs/PORT.md', 'docs/DESIGN-PASS.md')
+
+
 def report(script, faults):
     """A line for each fault, and the status that goes with it."""
     for fault in faults:
@@ -40,11 +44,13 @@ def unwrapped(text):
     return text
 
 
-def parts(text, sign):
-    """The text cut at a sign that stands in no bracket."""
+def parts(text, sign, angled=False):
+    """The text cut at a sign that stands in no bracket; those of a type are angled too, but for an arrow's."""
     found, depth, start = [], 0, 0
     for i, c in enumerate(text):
         depth += (c in '([{') - (c in ')]}')
+        if angled:
+            depth += (c == '<') - (c == '>' and text[i - 1:i] not in ('-', '='))
         if c == sign and depth == 0:
             found.append(text[start:i])
             start = i + 1
@@ -55,15 +61,19 @@ def short(clause):
     """A clause as docs/CONTRACTS.md writes it: `x` for lent memory at entry and `x'` at exit, `r` for what is handed back."""
     clause = words(clause).replace('«', '').replace('»', '')
     clause = re.sub(r"(?<![\w.])result(?:\.now)?(?![\w'])", 'r', clause)
+    # a value that a method is given has at its entry what it holds
+    clause = re.sub(r"(?<![\w.'])(\w+)\.entry(?![\w'])", r'\1', clause)
     return unwrapped(re.sub(r"(?<![\w.'])(\w+)\.(now|old|new)(?![\w'])", lambda m: m[1] + ("'" if m[2] == 'new' else ''), clause))
 
 
 class Function:
-    def __init__(self, path, file, parameters, result, clauses, body, exported):
+    def __init__(self, path, file, generics, parameters, result, clauses, body, exported):
         self.path, self.file, self.body, self.exported, self.line = path, file, body, exported, None
+        # the types that it is generic in, each with what is asked of it
+        self.generics = {name.strip(): words(bound) for name, _, bound in (part.partition(':') for part in generics if part and part[0] != "'")}
         # the type of what is handed back, and whether anything is
         self.type, self.result = result, result not in ('', '()')
-        self.parameters = [part for part in parts(parameters, ',') if part]
+        self.parameters = [part for part in parts(parameters, ',', angled=True) if part]
         self.lent = re.findall(r"(\w+)\s*:\s*&\s*(?:'\w+\s+)?mut\b", parameters)
         self.requires = ' × '.join(short(text) for kind, text in clauses if kind == 'requires')
         self.ensures = ' × '.join(short(text) for kind, text in clauses if kind == 'ensures')
@@ -76,11 +86,12 @@ class Function:
             return [], 'is declared without a body'
         if not self.ensures:
             return [], 'has no ensures'
-        if re.search(r'\.(?:now|old|new)\b', self.ensures):
+        # what a field of a value lends has its value in the value
+        if re.search(r'(?<![\w.])\w+\.(?:now|old|new)\b|\.(?:old|new)\b', self.ensures):
             return [], 'has a contract that reads lent memory in a way that is not known here'
         found, fixed = [], set()
         for part in parts(self.ensures, '×'):
-            shape, results, inputs = shape_of(unwrapped(part), heads)
+            shape, results, inputs = shape_of(unwrapped(part), heads) if not told_by_a_closure(unwrapped(part)) else self.closure_shape(unwrapped(part))
             if not shape:
                 return [], 'has a contract of no shape that is known here'
             if any(re.search(r"(?<![\w.])r\b|\w'", text) for text in inputs):
@@ -90,25 +101,43 @@ class Function:
         missing = [x + "'" for x in self.lent if x + "'" not in fixed] + (['r'] if self.result and 'r' not in fixed else [])
         return found, f'has a contract that leaves {", ".join(missing)} open' if missing else None
 
+    def closure_shape(self, part):
+        """The shape of a part that says what comes of it for any definition that a closure answers by: as of an equality, where what is asked is of
+        a closure that the function takes, names the definition, and speaks of no result."""
+        name, _, asked, equal = told_by_a_closure(part)
+        sides = parts(equal, '≡')
+        posts = set(re.findall(r'(?<![\w.])(\w+)\.post(?!\w)', asked))
+        if len(sides) != 2 or re.search('[→⊎∨↔]', equal) or not RESULT.fullmatch(sides[0]) or 'state_in' in sides[0]:
+            return None, [], []
+        if len(posts) != 1 or any(not re.match(r'Fn\b', self.generics.get(owner, '')) for owner in posts) or not re.search(rf"(?<![\w.]){name}(?![\w'])", asked):
+            return None, [], []
+        return 'for a closure', sides[:1], [asked, *sides[1:]]
+
 
 RESULT = re.compile(r"r|\w+'|\(?state_in cells' holds'\)?")
 
 
+def told_by_a_closure(part):
+    """Of a part of a contract that is so for any definition of which something is asked: the definition's name, its type, what is asked of it, and what
+    is so; or None."""
+    bound = re.fullmatch(r'\((\w+) : ([^()]*)\) → (.*)', part)
+    steps = parts(bound[3], '→') if bound else []
+    return (bound[1], bound[2], steps[0], steps[1]) if len(steps) == 2 and '.post' in steps[0] else None
+
+
 def shape_of(part, heads):
     """The shape of one part of a contract, with the results that it fixes and what it fixes them by: an equality of a result, of the state in the
-    two lent arrays, of a field, or for any value of something; or a record, of which each result is an argument. No shape: None."""
-    bound = re.fullmatch(r'\(\w+ : [^()]*\) → (.*)', part)
-    sides = parts(bound[1] if bound else part, '≡')
-    if len(sides) == 2 and not re.search('[→⊎∨↔]', sides[0] + sides[1]):
+    two lent arrays or of a field; or a record, of which each result is an argument. No shape: None."""
+    sides = parts(part, '≡')
+    if len(sides) == 2 and not re.search('[→⊎∨↔]', part):
         field = re.fullmatch(r'r(\.\w+)', sides[0])
-        if field and not bound:
+        if field:
             return f'`{field[1]}`', ['r'], sides[1:]
         if RESULT.fullmatch(sides[0]):
-            state = 'state_in' in sides[0]
-            return (None if state else 'for any') if bound else 'state' if state else 'equality', sides[:1], sides[1:]
+            return 'state' if 'state_in' in sides[0] else 'equality', sides[:1], sides[1:]
         return None, [], []
     head, *rest = arguments(part)
-    if len(sides) > 1 or bound or head not in heads:
+    if len(sides) > 1 or head not in heads:
         return None, [], []
     return f'`{heads[head]}`', [a for a in rest if RESULT.fullmatch(a)], [a for a in rest if not RESULT.fullmatch(a)]
 
@@ -144,8 +173,8 @@ def read_file(root, file):
             whole = [s.strip() for s in whole.split('::') if s.strip()]
             if whole:
                 uses[other.strip() or whole[-1]] = whole
-    functions, scopes, at, lines = [], [], 0, text.split('\n')
-    token = re.compile(r'\bfn\s+(\w+)|\b(?:mod|impl)\s+(\w+)[^{;]*\{|[{}]')
+    functions, scopes, begins, at, lines = [], [], [], 0, text.split('\n')
+    token = re.compile(r'\bfn\s+(\w+)|\b(?:mod|trait|impl(?:\s*<[^{;]*?>)?(?:\s+[^{}]+?\s+for)?)\s+(\w+)[^{;]*\{|[{}]')
     while True:
         m = token.search(plain, at)
         if not m:
@@ -153,22 +182,51 @@ def read_file(root, file):
         at = m.end()
         if m.group() == '}':
             scopes.pop()
+            begins.pop()
         elif m[1] is None:
             scopes.append(m[2])
+            # of several impls of a trait for one type which one it is says what the value is made from
+            made_from = re.match(r'impl\b[^{]*?\bFrom<([A-Z]\w*)>\s+for\b', m.group())
+            begins.append((at, made_from and made_from[1].lower()))
         else:
-            path = module + [s for s in scopes if s] + [m[1]]
+            begin, made_from = begins[-1] if begins else (at, None)
+            path = module + [s for s in scopes if s] + [f'from_{made_from}' if made_from and m[1] == 'from' else m[1]]
             exported = bool(re.search(r'\bextern\s+$', plain[:m.start()]))
             # where it begins, with what stands above it about it
             line = plain.count('\n', 0, m.start()) + 1
             while line > 1 and lines[line - 2].lstrip().startswith('#['):
                 line -= 1
-            function, at = read_function(plain, text, at, '::'.join(path), file, exported)
+            function, at = read_function(plain, text, at, '::'.join(path), file, exported, given_by(plain, text, begin, m))
             function.line = line
             functions.append(function)
 
 
-def read_function(plain, text, at, path, file, exported):
-    start = plain.index('(', at)
+def given_by(plain, text, begin, function):
+    """What a trait of the library's says by a ghost member of the same impl that its function gives: what that names the argument and the result, and
+    what it says of them; or None."""
+    member = re.compile(rf'\bghost\s+{function[1]}_gives\s*=\s*(?=\{{)').search(plain, begin, function.start())
+    if not member:
+        return None
+    inner = text[member.end() + 1:closing(plain, member.end()) - 1]
+    said = re.fullmatch(r'\s*λ (\w+) (\w+)\.\s(.*?)\s*', inner, re.S)
+    if not said:
+        raise ValueError(f'what {member.group().split()[1]} says is not read here: {words(inner)}')
+    return said.groups()
+
+
+def angle_end(plain, at):
+    """Where the angle that opened before a place closes."""
+    depth = 1
+    while depth:
+        depth += (plain[at] == '<') - (plain[at] == '>' and plain[at - 1] not in '-=')
+        at += 1
+    return at
+
+
+def read_function(plain, text, at, path, file, exported, given=None):
+    # what is generic stands before the parameters
+    generic = re.compile(r'\s*<').match(plain, at)
+    start = plain.index('(', angle_end(plain, generic.end()) if generic else at)
     at = closing(plain, start)
     parameters = plain[start + 1:at - 1]
     # the result's type goes up to the first clause, the body or a semicolon that is in no bracket
@@ -184,25 +242,47 @@ def read_function(plain, text, at, path, file, exported):
         end = closing(plain, m.end())
         clauses.append((m[1], text[m.end() + 1:end - 1]))
         at = end
+    if given:
+        names = {given[0]: parameters.partition(':')[0].strip(), given[1]: 'result'}
+        clauses.append(('ensures', re.sub(r"(?<![\w.])\w+(?![\w'])", lambda word: names.get(word[0], word[0]), given[2])))
     m = re.compile(r'\s*([{;])').match(plain, at)
     if not m:
         raise ValueError(f'{file}: what follows the clauses of {path} is not read')
     end = closing(plain, m.start(1)) if m[1] == '{' else m.end()
     body = plain[m.start(1):end] if m[1] == '{' else None
-    return Function(path, file, parameters, result, clauses, body, exported), end
+    generics = parts(plain[generic.end():angle_end(plain, generic.end()) - 1] if generic else '', ',', angled=True)
+    return Function(path, file, generics, parameters, result, clauses, body, exported), end
 
 
 def unread(text):
-    """What a source file has that these scripts would read past: a raw string, or memory lent to be written behind a name or in a struct."""
+    """What a source file has that these scripts would read past: a raw string, or memory lent to be written behind a name, in a struct or by a closure."""
     plain = blanked(text)
     for what, pattern in (
         ('a raw string', r'\bb?r#*"'),
         ('a name for a reference that writes', r'\btype\b[^;]*&[^;]*\bmut\b'),
         ('a struct that holds a reference that writes', r'\bstruct\b[^;{(]*(?:\{[^}]*|\([^)]*)&\s*(?:\'\w+\s+)?mut\b'),
+        ('an invariant of a model', r'\bghost\s+invariant\b'),
+        ('a closure that may write', r'\bFn(?:Mut|Once)\b'),
         ('a method on a reference', r'\(\s*&\s*(?:\'\w+\s+)?(?:mut\s+)?self\b'),
     ):
         if re.search(pattern, text if '"' in pattern else plain):
             yield what
+
+
+def carried(root):
+    """What the values of a struct carry by a ghost field: the struct's path, and the facts."""
+    found = {}
+    for file in sorted(Path(root).glob('crates/*/src/**/*.rt')):
+        text = file.read_text()
+        plain = blanked(text)
+        steps = file.relative_to(Path(root) / 'crates').with_suffix('').parts
+        for m in re.finditer(r'\bstruct\s+(\w+)[^{;(]*(?=\{)', plain):
+            end = closing(plain, m.end())
+            fields = [f for f in re.finditer(r'\bghost\s+\w+\s*:\s*(?=\{)', plain[:end]) if f.start() > m.start()]
+            if fields:
+                path = '::'.join([steps[0], *(s for s in steps[2:] if s not in ('lib', 'main', 'mod')), m[1]])
+                found[path] = ' × '.join(short(text[f.end() + 1:closing(plain, f.end()) - 1]) for f in fields)
+    return found
 
 
 def rooms_below(root):
@@ -228,8 +308,17 @@ def functions_of(root):
             found[f.path] = f
     for functions, uses in files:
         for f in functions:
-            f.calls = {path for call in calls_in(f.body or '') for path in named(call, f.path.split('::'), uses, found)}
+            f.calls = {path for call in calls_in(f.body or '') for path in named(call, f.path.split('::'), uses, found)} | turned(f, found)
     return found
+
+
+def turned(f, found):
+    """The functions that a `?` calls unseen: those that make the error which is handed back from another that the body names."""
+    made = re.fullmatch(r'Result<.*\b(\w+)>', words(f.type), re.S)
+    spoken = {word.lower() for word in re.findall(r'\w+', f.body or '')}
+    if not made or '?' not in (f.body or ''):
+        return set()
+    return {path for path in found for source in re.findall(rf'::{made[1]}::from_(\w+)$', path) if source in spoken}
 
 
 def calls_in(body):
@@ -249,7 +338,11 @@ def named(call, path, uses, found):
     for place in places:
         if '::'.join(place) in found:
             return ['::'.join(place)]
-    return []
+    # what a type's `impl` has may stand in another file than the type
+    own = [step for step in path if re.match('[A-Z]', step)]
+    of = own[-1:] if steps[-2:-1] == ['Self'] else steps[-2:-1]
+    several = r'(?:_\w+)?' if steps[-1] == 'from' else ''
+    return [p for p in found if of and re.match('[A-Z]', of[0]) and re.search(rf'::{of[0]}::{steps[-1]}{several}$', p)]
 
 
 # The files of the crates whose constants are sizes: the limits and what is computed from them, the cells of a state; the cells of an unfinished
@@ -438,16 +531,16 @@ def face_codes(root):
             found[lead + capitals(case)] = (int(value), line, place)
     for case, (value, place) in equations(root, WRITING, 'unwritten_number').items():
         found[capitals(case)] = (int(value), None, place)
-    written, place = place_of(root, WRITING, r'^written_number \(Whole size\) = (\d+)$')
+    written, place = place_of(root, WRITING, r'^written_number \(Ok size\) = (\d+)$')
     found['WRITTEN'] = (int(written[1]), None, place)
     accepted, place = place_of(root, 'codes/specs/Codes.antt', r'^verdict_code v = packed \(\((\d+) \+ rule_number v\)')
-    found['ACCEPTED'] = (int(accepted[1]), *strings(given_for(root, LINES, 'verdict_line', 'Accepted')), place)
+    found['ACCEPTED'] = (int(accepted[1]), *strings(given_for(root, LINES, 'verdict_line', 'Ok')), place)
     return found
 
 
 def face_rule(root):
     """The line of a broken rule."""
-    return wording(strings(given_for(root, LINES, 'verdict_line', 'Broken')), ['<rule>', '<row>'])
+    return wording(strings(given_for(root, LINES, 'verdict_line', 'Err')), ['<rule>', '<row>'])
 
 
 def face_events(root):
@@ -473,8 +566,8 @@ def face_numbers(root):
             found[other] = (value, None, place)
     for name, value in defined(root, 'state/specs/State.antt').items():
         found[SHOWN.get(name, capitals(name))] = (value, None, place_of(root, 'state/specs/State.antt', rf'^{name} = ')[1])
-    parameters, place = place_of(root, 'events/src/lib.rt', r'\bfn event_of\(([^)]*)\)')
-    found['EVENT'] = (len(parts(parameters[1], ',')), None, place)
+    size, place = place_of(root, 'events/src/lib.rt', r'\bimpl From<\[u8; (\d+)\]> for Event\b')
+    found['EVENT'] = (int(size[1]), None, place)
     rules, place = place_of(root, 'rules/specs/Verdict.antt', r'^rules p =\n((?:    .*\n)+)')
     found['RULES'] = (len(re.findall(r'\bover\b', rules[1])), None, place)
     for name, entry in [*face_events(root).items(), *face_codes(root).items()]:
@@ -606,12 +699,12 @@ def line_shapes(root):
     text = (Path(root) / 'crates/lines/specs/Lines.antt').read_text()
     numbers, _ = answers(root)
     said = {name: re.findall(r'"([^"]*)"', rest) for name, rest in re.findall(r'^\w+_(?:words|line) \(?(\w+)[^=\n]*=(.*)$', text, re.M)}
-    shapes = [''.join(said['Accepted'])]
+    shapes = [''.join(said['Ok'])]
     for name, words_of in said.items():
         if name in numbers:
             harm = re.search(rf'^harm_words \(?{name}\b', text, re.M)
             shapes.append(f'{said["Accident" if harm else "Refused"][0]}{numbers[name]}' + ''.join(word + r'\d+' for word in words_of))
-        elif words_of and name not in ('Accepted', 'Accident', 'Refused'):
+        elif words_of and name not in ('Ok', 'Accident', 'Refused'):
             shapes.append(''.join(word + r'\d+' for word in words_of))
     return shapes
 

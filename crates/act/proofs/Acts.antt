@@ -9,7 +9,7 @@ use native.Mathlib.Numerals.{add-one}
 use lib.ListN.{length, get_or, set}
 use lib.Dec.{eqb, ltb}
 use borrow.Author.Tests.{eq-eqb, ne_eqb, lt-ltb, le-ltb}
-use borrow.Rule.Slice.PartMut.{mid_of, put_mid}
+use borrow.Rule.Slice.PartMut.{mid_of, put_mid, same_len_mid}
 use Rattle.laws.specs.Lists.{any_of, has, joined}
 use Rattle.laws.specs.Sets.{excluding}
 use Rattle.laws.specs.Tables.{tab, length_tab, get_or_tab, tab_cong, tab_of}
@@ -66,7 +66,7 @@ unfoldable pub gave_back : Plan → ℕ → List ℕ → ℕ → ℕ → ℕ
 gave_back p v m n q = dropped_all n (λ r. releases p r v q) (get_or m q 0)
 
 released_has : (v q : ℕ) (l : List Release) → has q (released v (joined release_file l)) ≡ any_of (λ release. eqb release.track v && eqb release.point q) l
-unfolding joined release_file released has any_of
+unfolding joined release_file released has
 released_has v q [] = refl
 released_has v q (a ∷ l) = go (eqb a.track v) (released_has v q l)
   where
@@ -201,13 +201,11 @@ module _ (p : Plan) (a : Deed) (m : List ℕ) where
   unfolding new_signals red_behind deed_leaves route_signals
   entered_signals e = rw e
 
-  pub moved_signals : {train u v : ℕ} → a ≡ Moved train u v → {h : List ℕ} → h ≡ tab most_signals (reddened p u m) → h ≡ new_signals p m a
+  pub behind_signals : {u : ℕ} → ((train : ℕ) × (v : ℕ) × (a ≡ Moved train u v)) ⊎ ((train : ℕ) × (a ≡ Left train u)) → {h : List ℕ}
+      → h ≡ tab most_signals (reddened p u m) → h ≡ new_signals p m a
   unfolding new_signals red_behind deed_leaves route_signals
-  moved_signals e w = w ∙ rw e
-
-  pub left_signals : {train u : ℕ} → a ≡ Left train u → {h : List ℕ} → h ≡ tab most_signals (reddened p u m) → h ≡ new_signals p m a
-  unfolding new_signals red_behind deed_leaves route_signals
-  left_signals e w = w ∙ rw e
+  behind_signals (inl (train, v, e)) w = w ∙ rw e
+  behind_signals (inr (train, e)) w = w ∙ rw e
 
 -- The parts of the cells come back one after the other, and then the state is whole.
 
@@ -238,3 +236,11 @@ module _ (p : Plan) (a : Deed) (l h t y s : List ℕ) (n : length l ≡ cells_si
       eh
       (b₃.own most_signals refl ∙ es
       ∙ ap (λ (m : List ℕ). new_signals p m a) (b₂.after signals_from most_signals (omega arith) ∙ b₁.after signals_from most_signals (omega arith)))
+
+  -- the same where each part that comes back is as long as the one that was lent
+  pub parts_acted : {h' : List ℕ} → length t ≡ length (mid_of trains_from most_tracks l) → length y ≡ length (mid_of lies_from most_tracks l₁)
+      → length s ≡ length (mid_of signals_from most_signals l₂)
+      → t ≡ new_trains (mid_of trains_from most_tracks l) a → y ≡ new_lies p (mid_of lies_from most_tracks l₁) a → s ≡ new_signals p (mid_of signals_from most_signals l₂) a
+      → h' ≡ new_holds p h a → state_in l₃ h' ≡ after_deed p (state_in l h) a
+  parts_acted nt ny ns =
+      acted (same_len_mid trains_from most_tracks l t nt) (same_len_mid lies_from most_tracks l₁ y ny) (same_len_mid signals_from most_signals l₂ s ns)

@@ -15,7 +15,7 @@ use Rattle.plan.proofs.Says.{point_below}
 use Rattle.events.specs.declared.Deed.{Deed}
 use Rattle.events.specs.declared.Deed.TheVariants.{Granted, Cancelled, Entered, Moved, Left}
 use Rattle.events.specs.After.{Names}
-use Rattle.act.specs.Cells.{Ready, Placed}
+use Rattle.act.specs.Cells.{Ready}
 
 -- A route that there is.
 module _ (p : Plan) (readable : Readable p) (r : ℕ) (there : r < length p.routes) where
@@ -69,19 +69,19 @@ module _ (p : Plan) (a : Deed) (ready : Ready p a) where
     granted_reverse w = rw w (reverse_below p ready.readable r (granted_there e) cells long)
 
 -- The tracks of a deed.
-module _ (trains : List ℕ) (a : Deed) (placed : Placed trains a) where
+module _ (p : Plan) (a : Deed) (ready : Ready p a) (trains : List ℕ) (long : length trains ≡ most_tracks) where
   pub entered_below : {train u : ℕ} → a ≡ Entered train u → u < length trains
   unfolding Names
-  entered_below e = let h = rw e at placed.named in omega (arith, h, placed.few, placed.long)
+  entered_below e = let h = rw e at ready.named in omega (arith, h, ready.readable.tracks.few, long)
 
   pub to_below : {train u v : ℕ} → a ≡ Moved train u v → v < length trains
   unfolding Names
-  to_below e = let h = rw e at placed.named in omega (arith, h.1, placed.few, placed.long)
+  to_below e = let h = rw e at ready.named in omega (arith, h.1, ready.readable.tracks.few, long)
 
   pub from_below : {train u v : ℕ} → a ≡ Moved train u v → u < length trains
   unfolding Names
-  from_below e = let h = rw e at placed.named in omega (arith, h.0, placed.few, placed.long)
+  from_below e = let h = rw e at ready.named in omega (arith, h.0, ready.readable.tracks.few, long)
 
   pub left_below : {train u : ℕ} → a ≡ Left train u → u < length trains
   unfolding Names
-  left_below e = let h = rw e at placed.named in omega (arith, h, placed.few, placed.long)
+  left_below e = let h = rw e at ready.named in omega (arith, h, ready.readable.tracks.few, long)

@@ -3,7 +3,7 @@ use Rattle.std.specs.Prelude.{List, ℕ, length, ◌≡◌ as ◌is◌, ◌≡�
 use Rattle.events.specs.declared.Answer.{Answer}
 use Rattle.state.specs.Cells.{cells_size, state_in}
 use Rattle.state.proofs.Lent.{lent_once}
-use Rattle.events.specs.declared.Deed.{Deed}
+use Rattle.act.specs.declared.Due.{Due}
 use Rattle.laws.specs.Once.{equal_once}
 use Rattle.laws.specs.Tables.{tab}
 use Rattle.plan.specs.Limits.{most_tracks, most_signals}
@@ -19,37 +19,43 @@ pub act_once : (image cells holds : List ℕ) (answer : Answer) (cells' cells'' 
     → (cells' is cells'') × (holds' is holds'')
 act_once image cells holds answer cells' cells'' holds' holds'' sized sized_other by_one by_other = lent_once _ _ _ _ _ sized sized_other by_one by_other
 
-pub carry_out_once : (image cells holds : List ℕ) (deed : Deed) (cells' cells'' holds' holds'' : List ℕ)
+pub due_carry_out_once : (self : Due) (cells holds cells' cells'' holds' holds'' : List ℕ)
     → length cells' is cells_size
     → length cells'' is cells_size
-    → (state_in cells' holds' ≡ after_deed (plan_of image) (state_in cells holds) deed)
-    → (state_in cells'' holds'' ≡ after_deed (plan_of image) (state_in cells holds) deed)
+    → (state_in cells' holds' ≡ after_deed (plan_of self.image.now) (state_in cells holds) self.deed)
+    → (state_in cells'' holds'' ≡ after_deed (plan_of self.image.now) (state_in cells holds) self.deed)
     → (cells' is cells'') × (holds' is holds'')
-carry_out_once image cells holds deed cells' cells'' holds' holds'' sized sized_other by_one by_other = lent_once _ _ _ _ _ sized sized_other by_one by_other
+due_carry_out_once self cells holds cells' cells'' holds' holds'' sized sized_other by_one by_other = lent_once _ _ _ _ _ sized sized_other by_one by_other
 
-pub act_trains_once : (trains : List ℕ) (deed : Deed) (trains' trains'' : List ℕ)
-    → (trains' ≡ new_trains trains deed)
-    → (trains'' ≡ new_trains trains deed)
+pub due_trains_once : (self : Due) (trains trains' trains'' : List ℕ)
+    → (trains' ≡ new_trains trains self.deed)
+    → (trains'' ≡ new_trains trains self.deed)
     → trains' is trains''
-act_trains_once trains deed trains' trains'' by_one by_other = equal_once _ _ _ by_one by_other
+due_trains_once self trains trains' trains'' by_one by_other = equal_once _ _ _ by_one by_other
 
-pub act_lies_once : (image lies : List ℕ) (deed : Deed) (lies' lies'' : List ℕ)
-    → (lies' ≡ new_lies (plan_of image) lies deed)
-    → (lies'' ≡ new_lies (plan_of image) lies deed)
+pub due_lies_once : (self : Due) (lies lies' lies'' : List ℕ)
+    → (lies' ≡ new_lies (plan_of self.image.now) lies self.deed)
+    → (lies'' ≡ new_lies (plan_of self.image.now) lies self.deed)
     → lies' is lies''
-act_lies_once image lies deed lies' lies'' by_one by_other = equal_once _ _ _ by_one by_other
+due_lies_once self lies lies' lies'' by_one by_other = equal_once _ _ _ by_one by_other
 
-pub act_holds_once : (image holds : List ℕ) (deed : Deed) (holds' holds'' : List ℕ)
-    → (holds' ≡ new_holds (plan_of image) holds deed)
-    → (holds'' ≡ new_holds (plan_of image) holds deed)
-    → holds' is holds''
-act_holds_once image holds deed holds' holds'' by_one by_other = equal_once _ _ _ by_one by_other
-
-pub act_signals_once : (image signals : List ℕ) (deed : Deed) (signals' signals'' : List ℕ)
-    → (signals' ≡ new_signals (plan_of image) signals deed)
-    → (signals'' ≡ new_signals (plan_of image) signals deed)
+pub due_signals_once : (self : Due) (signals signals' signals'' : List ℕ)
+    → (signals' ≡ new_signals (plan_of self.image.now) signals self.deed)
+    → (signals'' ≡ new_signals (plan_of self.image.now) signals self.deed)
     → signals' is signals''
-act_signals_once image signals deed signals' signals'' by_one by_other = equal_once _ _ _ by_one by_other
+due_signals_once self signals signals' signals'' by_one by_other = equal_once _ _ _ by_one by_other
+
+pub due_holds_once : (self : Due) (holds holds' holds'' : List ℕ)
+    → (holds' ≡ new_holds (plan_of self.image.now) holds self.deed)
+    → (holds'' ≡ new_holds (plan_of self.image.now) holds self.deed)
+    → holds' is holds''
+due_holds_once self holds holds' holds'' by_one by_other = equal_once _ _ _ by_one by_other
+
+pub due_arrive_once : (self : Due) (to : ℕ) (holds holds' holds'' : List ℕ)
+    → (holds' ≡ tab most_tracks (arrived (plan_of self.image.now) to holds))
+    → (holds'' ≡ tab most_tracks (arrived (plan_of self.image.now) to holds))
+    → holds' is holds''
+due_arrive_once self to holds holds' holds'' by_one by_other = equal_once _ _ _ by_one by_other
 
 pub turn_once : (list : List ℕ) (lie : ℕ) (lies lies' lies'' : List ℕ)
     → (lies' ≡ tab (length lies) (turned list lie lies))
@@ -68,12 +74,6 @@ pub drop_all_once : (route : ℕ) (holds holds' holds'' : List ℕ)
     → (holds'' ≡ tab (length holds) (dropped route holds))
     → holds' is holds''
 drop_all_once route holds holds' holds'' by_one by_other = equal_once _ _ _ by_one by_other
-
-pub arrive_once : (image : List ℕ) (to : ℕ) (holds holds' holds'' : List ℕ)
-    → (holds' ≡ tab most_tracks (arrived (plan_of image) to holds))
-    → (holds'' ≡ tab most_tracks (arrived (plan_of image) to holds))
-    → holds' is holds''
-arrive_once image to holds holds' holds'' by_one by_other = equal_once _ _ _ by_one by_other
 
 pub give_back_once : (releases : List ℕ) (to route : ℕ) (holds holds' holds'' : List ℕ)
     → (holds' ≡ tab (length holds) (freed (released to releases) route holds))

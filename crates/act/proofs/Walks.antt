@@ -2,15 +2,15 @@
 use mathlib.Core.Path.{◌≡◌, refl, sym, ◌∙◌}
 use mathlib.Core.Bool.{Bool, true, false, cond, ◌||◌}
 use mathlib.Core.Logic.{◌≢◌, ◌⊎◌, inl, inr}
-use mathlib.Core.List.{List, [], ◌∷◌}
+use mathlib.Core.List.{List, [], ◌∷◌, ◌++◌}
 use Prim.Native.Nat.{ℕ, ◌+◌, ◌<◌, ◌≤◌}
 use native.Mathlib.Omega.{arith}
-use lib.ListN.{length, get_or, set, drop, length-set, length-drop}
+use lib.ListN.{length, get_or, set, drop, length-set}
 use lib.Seq.{get_or-set_same, get_or-set_other}
 use lib.Dec.{eqb, ltb}
 use borrow.Author.Tests.{eq-eqb, ne_eqb, lt-ltb, le-ltb, ltb-true, ltb-false}
 use Rattle.laws.specs.Tests.{same?}
-use Rattle.laws.specs.Lists.{any_of, has, walk_step, walk_end}
+use Rattle.laws.specs.Lists.{All, has, walk_step, walk_end}
 use Rattle.laws.specs.Tables.{tab, length_tab, get_or_tab, tab_cong, tab_of}
 use Rattle.act.specs.Cells.{released}
 
@@ -45,7 +45,7 @@ module _ (g : ℕ → ℕ) where
   -- a cell that is named twice is as if named once
   module _ (twice : (x : ℕ) → g (g x) ≡ g x) where
     writes_at : (l m : List ℕ) (k : ℕ) → k < length m → get_or (writes g l m) k 0 ≡ cond (has k l) (g (get_or m k 0)) (get_or m k 0)
-    unfolding writes has any_of
+    unfolding writes has
     writes_at [] m k h = refl
     writes_at (q ∷ l) m k h = writes_at l (set m q (g (get_or m q 0))) k (rw length-set h) ∙ go (same? q k) (has k l)
       where
@@ -109,29 +109,39 @@ module _ (f : ℕ → ℕ) (m : List ℕ) where
         go k b true t = refl
         go k b false t = w k b (ltb-false k i t)
 
--- Releases, two numbers at a time.
-module _ (v : ℕ) (l : List ℕ) (i : ℕ) where
-  released_step : i + 1 < length l
-      → released v (drop i l) ≡ cond (eqb (get_or l i 0) v) (get_or l (i + 1) 0 ∷ released v (drop (i + 2) l)) (released v (drop (i + 2) l))
-  unfolding released
-  released_step h =
-      let e : i + 1 + 1 ≡ i + 2 = omega arith in
-      walk_step l i (released v) (omega arith) ∙ walk_step l (i + 1) (λ x. released v (get_or l i 0 ∷ x)) h ∙ rw e
+-- Releases, two numbers at a time: a pair of those that are left, and the rest.
+pub released_end : (v : ℕ) (g : ℕ → ℕ) (m left : List ℕ) → length left < 2 → writes g (released v left) m ≡ m
+unfolding released writes
+released_end v g m [] k = refl
+released_end v g m (a ∷ []) k = refl
+released_end v g m (a ∷ (b ∷ x)) k = absurd (omega arith)
 
-  pub released_end : (g : ℕ → ℕ) (m : List ℕ) → length l ≤ i + 1 → writes g (released v (drop i l)) m ≡ m
-  unfolding released writes
-  released_end g m h = short (drop i l) (rw length-drop (omega arith))
+module _ (left pair rest : List ℕ) (is : left ≡ pair ++ rest) (two : length pair ≡ 2) where
+  pub pair_below : (P : ℕ → Type 0) → All P left → P (get_or pair 1 0) × All P rest
+  unfolding All
+  pair_below P w = go pair two (rw is at w)
     where
-      short : (x : List ℕ) → length x ≤ 1 → writes g (released v x) m ≡ m
-      short [] k = refl
-      short (a ∷ []) k = refl
-      short (a ∷ (b ∷ x)) k = absurd (omega arith)
+      go : (l : List ℕ) → length l ≡ 2 → All P (l ++ rest) → P (get_or l 1 0) × All P rest
+      go [] e w = absurd (omega arith)
+      go (a ∷ []) e w = absurd (omega arith)
+      go (a ∷ (b ∷ [])) e w = w.1
+      go (a ∷ (b ∷ (c ∷ l))) e w = absurd (omega arith)
 
-  module _ (g : ℕ → ℕ) (m : List ℕ) (h : i + 1 < length l) where
-    pub released_hit : (q a : ℕ) (m' : List ℕ) → get_or l i 0 ≡ v → q ≡ get_or l (i + 1) 0 → a ≡ g (get_or m q 0) → m' ≡ set m q a
-        → writes g (released v (drop i l)) m ≡ writes g (released v (drop (i + 2) l)) m'
+  module _ (v : ℕ) (g : ℕ → ℕ) (m : List ℕ) where
+    released_pair : released v left ≡ cond (eqb (get_or pair 0 0) v) (get_or pair 1 0 ∷ released v rest) (released v rest)
+    unfolding released
+    released_pair = rw is (go pair two)
+      where
+        go : (l : List ℕ) → length l ≡ 2 → released v (l ++ rest) ≡ cond (eqb (get_or l 0 0) v) (get_or l 1 0 ∷ released v rest) (released v rest)
+        go [] e = absurd (omega arith)
+        go (a ∷ []) e = absurd (omega arith)
+        go (a ∷ (b ∷ [])) e = refl
+        go (a ∷ (b ∷ (c ∷ l))) e = absurd (omega arith)
+
+    pub released_hit : (q a : ℕ) (m' : List ℕ) → get_or pair 0 0 ≡ v → q ≡ get_or pair 1 0 → a ≡ g (get_or m q 0) → m' ≡ set m q a
+        → writes g (released v left) m ≡ writes g (released v rest) m'
     unfolding writes
-    released_hit q a m' e w z y = rw (released_step h, eq-eqb (get_or l i 0) v e, ← w, y, z)
+    released_hit q a m' e w z y = rw (released_pair, eq-eqb (get_or pair 0 0) v e, ← w, y, z)
 
-    pub released_miss : (m' : List ℕ) → (get_or l i 0 ≡ v → ⊥) → m' ≡ m → writes g (released v (drop i l)) m ≡ writes g (released v (drop (i + 2) l)) m'
-    released_miss m' e y = rw (released_step h, ne_eqb (get_or l i 0) v e, y)
+    pub released_miss : (get_or pair 0 0 ≡ v → ⊥) → writes g (released v left) m ≡ writes g (released v rest) m
+    released_miss e = rw (released_pair, ne_eqb (get_or pair 0 0) v e)

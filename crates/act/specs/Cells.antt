@@ -1,13 +1,15 @@
 -- What acting does to the cells of one array, walk by walk, and when it may be asked for.
-use Rattle.std.specs.Prelude.{◌≡◌, cond, List, [], ◌∷◌, ℕ, ◌≤◌, length, get_or, eqb}
-use Rattle.laws.specs.Lists.{has}
+use Rattle.std.specs.Prelude.{cond, List, [], ◌∷◌, ℕ, get_or, eqb}
+use Rattle.std.specs.Coded.{×_prop, Unit-prop, le_prop}
+use mathlib.Core.Bool.{Bool-set}
+use Rattle.laws.specs.Lists.{All, has}
 use Rattle.laws.specs.Sets.{excluding}
-use Rattle.plan.specs.Limits.{most_tracks}
 use Rattle.plan.specs.Records.{Plan}
 use Rattle.plan.specs.File.{Readable}
 use Rattle.state.specs.Holds.{adding}
 use Rattle.state.specs.State.{normal_lie}
 use Rattle.events.specs.declared.Deed.{Deed}
+use Rattle.events.specs.declared.Deed.TheVariants.{Granted, Cancelled, Entered, Moved, Left}
 use Rattle.events.specs.After.{Names}
 
 -- every point of a list is turned
@@ -33,9 +35,20 @@ pub record Ready (p : Plan) (deed : Deed) : Type 0 where
   pub readable : Readable p
   pub named : Names p deed
 
--- Trains need no plan: some plan has what the deed names, and there is a cell for each of its tracks.
-pub record Placed (trains : List ℕ) (deed : Deed) : Type 0 where
-  pub plan : Plan
-  pub named : Names plan deed
-  pub few : length plan.tracks ≤ most_tracks
-  pub long : length trains ≡ most_tracks
+-- There is one way at most in which a deed is ready.
+module _ {A : Type 0} {ok : A → Type 0} (one : (a : A) → IsProp (ok a)) where
+  all_prop : (l : List A) → IsProp (All ok l)
+  unfolding All
+  all_prop [] = Unit-prop
+  all_prop (a ∷ l) = ×_prop (one a) (all_prop l)
+
+names_prop : (p : Plan) (deed : Deed) → IsProp (Names p deed)
+unfolding Names
+names_prop p (Granted r) = le_prop
+names_prop p (Cancelled r) = le_prop
+names_prop p (Entered train u) = le_prop
+names_prop p (Moved train u v) = ×_prop le_prop le_prop
+names_prop p (Left train u) = le_prop
+
+pub ready_prop : (p : Plan) (deed : Deed) → IsProp (Ready p deed)
+ready_prop p deed = hlevel (all_prop, names_prop, le_prop, Bool-set)

@@ -1,11 +1,10 @@
 -- A turn serves, and turns one after the other do. Assumes nothing.
 use mathlib.Core.Path.{◌≡◌, refl, sym, ap, ◌∙◌, subst}
-use mathlib.Core.Bool.{Bool, true}
 use mathlib.Core.List.{List, [], ◌∷◌, ◌++◌, append-nil}
-use Prim.Native.Nat.{ℕ, ◌+◌, ◌-◌, ◌*◌, ◌/◌, ◌^◌, ◌<◌, ◌≤◌}
+use Prim.Native.Nat.{ℕ, ◌+◌, ◌*◌, ◌/◌, ◌≤◌}
 use native.Mathlib.Omega.{arith}
 use lib.ListN.{length, take, replicate, length-append, length-replicate}
-use lib.Seq.{length-take-le, length-sets}
+use lib.Seq.{length-take-le}
 use borrow.Author.Tests.{le-ltb}
 use Rattle.plan.specs.Records.{Plan}
 use Rattle.reading.specs.Reading.{Got, parse}
@@ -24,8 +23,18 @@ use Rattle.signalbox.proofs.Playing.{line_free}
 use Rattle.signalbox.proofs.Feeding.{short, brief, still_free, fresh_free}
 use Rattle.signalbox.proofs.Called.{feed_stands}
 use Rattle.signalbox.proofs.Once.{one_result}
+use Rattle.std.specs.Prelude.{Result, Ok, Err}
+use Rattle.bench.specs.declared.Told.{Told}
 use Rattle.bench.specs.declared.Exchange.{Exchange}
-use Rattle.bench.specs.Serving.{piece_most, lines_most, Serves, Served, Turned, ServedOn, Ended, TurnedOnce, ServedOnce, EndedOnce}
+use Rattle.bench.specs.Serving.{piece_most, lines_most, Serves, Served, Took, brought, Turned, ServedOn, Ended, TurnedOnce, ServedOnce, EndedOnce}
+
+pub still : {n m most : ℕ} → n ≡ m → m ≤ most → n ≤ most
+still e h = rw e h
+
+-- What a read has brought stands in its buffer.
+took_within : (read : Result ℕ Told) (bytes' : List ℕ) → Took read bytes' → brought read ≤ length bytes'
+took_within (Ok n) bytes' t = t.0
+took_within (Err told) bytes' t = omega arith
 
 -- One turn: where there is room for a line for each three bytes with two more before them, all is played.
 module _ (file bytes : List ℕ) {σ : State} {unfinished out : List ℕ} {r : Outcome} {τ : State} {unfinished' out' : List ℕ}
@@ -40,24 +49,25 @@ module _ (file bytes : List ℕ) {σ : State} {unfinished out : List ℕ} {r : O
       let c = waiting_count unfinished in
       omega arith
 
-  done : r.code ≡ 0
-  done = f.played.code ∙ line_free (parse file) σ (due b bytes) (length out) unfinished s.free (short unfinished s.few) fits
+  played : Feeds (parse file) σ unfinished bytes out (record { code = 0; written = r.written }) τ unfinished' out'
+  played =
+      let done = f.played.code ∙ line_free (parse file) σ (due b bytes) (length out) unfinished s.free (short unfinished s.few) fits in
+      subst (λ c. Feeds (parse file) σ unfinished bytes out (record { code = c; written = r.written }) τ unfinished' out') done f
 
-  pub turned : {n : ℕ} {failed : Bool} {bytes' : List ℕ} → take n bytes' ≡ bytes → n ≤ length bytes' → (failed ≡ true → n ≡ 0)
-      → Turned (parse file) σ unfinished out (record { read = n; written = r.written; failed = failed }) τ unfinished' bytes' out'
-  turned e m z = record { some = m; idle = z; feeds = rw e (subst (λ c. Feeds (parse file) σ unfinished bytes out (record { code = c; written = r.written }) τ unfinished' out') done f) }
+pub turned : (file : List ℕ) {σ : State} {unfinished out : List ℕ} {read : Result ℕ Told} {n : ℕ} {bytes' : List ℕ} {r : Outcome} {τ : State} {unfinished' out' : List ℕ}
+    → Serves (parse file) σ unfinished → n ≡ brought read → Took read bytes' → length bytes' ≤ piece_most → lines_most ≤ length out
+    → Feeds (parse file) σ unfinished (take n bytes') out r τ unfinished' out' → Turned (parse file) σ unfinished out (record { read = read; written = r.written }) τ unfinished' bytes' out'
+turned file {read = read} {n = n} {bytes' = bytes'} s e t most room f =
+    let within = took_within read bytes' t in
+    let few : length (take n bytes') ≤ piece_most = (let l = length-take-le n bytes' (still e within) in omega (arith, l, still e within)) in
+    record { some = within; feeds = rw (sym e) (played file (take n bytes') s few room f) }
 
-wrote_within : {bytes before after : List ℕ} {at next : ℕ} → Wrote bytes before at after next → next ≤ length after
-wrote_within {bytes} {before} {after} {at} w =
-    let e : length after ≡ length before = ap (λ (l : List ℕ). length l) w.written ∙ length-sets before at bytes in
-    omega (arith, w.within, e)
-
--- What a turn leaves is what its bytes give, and the lines stand within their buffer.
+-- What a turn leaves is what its bytes give.
 module _ (file : List ℕ) {σ : State} {unfinished lines : List ℕ} {r : Exchange} {τ : State} {unfinished' bytes' lines' : List ℕ} (t : Turned (parse file) σ unfinished lines r τ unfinished' bytes' lines') where
-  turn_served : Serves (parse file) σ unfinished → Served (parse file) σ unfinished (take r.read bytes') τ unfinished'
+  turn_served : Serves (parse file) σ unfinished → Served (parse file) σ unfinished (take (brought r.read) bytes') τ unfinished'
   unfolding unless
   turn_served s =
-      let bytes = take r.read bytes' in
+      let bytes = take (brought r.read) bytes' in
       let b = standing σ unfinished in
       let z = sym t.feeds.played.code in
       let e : τ ≡ state_after (parse file) σ (due b bytes) = rw z at t.feeds.played.state in
@@ -67,22 +77,9 @@ module _ (file : List ℕ) {σ : State} {unfinished lines : List ℕ} {r : Excha
         serves = record { free = rw e (still_free file σ (due b bytes) s.free); few = rw k (brief _ (left_few (b.unfinished ++ bytes))) };
       }
 
-  pub turn_within : r.written ≤ length lines'
-  turn_within = wrote_within t.feeds.played.written
-
--- The program's buffers are so long.
-
+-- The program's buffer is so long.
 pub full_piece : length (replicate {A = ℕ} piece_most 0) ≤ piece_most
 full_piece = let l = length-replicate {A = ℕ} piece_most 0 in omega arith
-
-pub still : {n m most : ℕ} → n ≡ m → m ≤ most → n ≤ most
-still e h = rw e h
-
-long : (n : ℕ) → n ≤ length (replicate {A = ℕ} n 0)
-long n = let l = length-replicate {A = ℕ} n 0 in omega arith
-
-pub full_lines : lines_most ≤ length (replicate {A = ℕ} lines_most 0)
-full_lines = long lines_most
 
 -- Turns.
 
@@ -114,29 +111,25 @@ served_then g {σ} {unfinished} {bytes} {more = more} a b = record {
   serves = b.serves;
 }
 
--- What holds where the loop tests: all that was read so far was fed, and there are numbers enough to count what is still to come.
+-- What holds where a turn begins: all that was read so far was fed, and that is no more than the turns before it could read.
 pub record Serving (g : Got Plan) (σ : State) (unfinished : List ℕ) (total turns : ℕ) (τ : State) (unfinished' : List ℕ) : Type 0 where
   pub on : ServedOn g σ unfinished total τ unfinished'
-  pub room : total + piece_most * turns < 2 ^ 64
+  pub room : total ≤ piece_most * turns
 
-pub serving_start : (g : Got Plan) (σ : State) (unfinished : List ℕ) {turns : ℕ} → Serves g σ unfinished → piece_most * turns < 2 ^ 64 → Serving g σ unfinished 0 turns σ unfinished
-serving_start g σ unfinished s h = record { on = record { bytes = []; many = refl; served = served_start g σ unfinished s }; room = omega arith }
+pub serving_start : (g : Got Plan) (σ : State) (unfinished : List ℕ) → Serves g σ unfinished → Serving g σ unfinished 0 0 σ unfinished
+serving_start g σ unfinished s = record { on = record { bytes = []; many = refl; served = served_start g σ unfinished s }; room = omega arith }
 
 module _ (file : List ℕ) {σ : State} {unfinished : List ℕ} {total turns : ℕ} {τ : State} {unfinished' : List ℕ} (l : Serving (parse file) σ unfinished total turns τ unfinished')
     {lines : List ℕ} {r : Exchange} {υ : State} {unfinished'' bytes' lines' : List ℕ} (t : Turned (parse file) τ unfinished' lines r υ unfinished'' bytes' lines') where
-  pub serving_on : ServedOn (parse file) σ unfinished (total + r.read) υ unfinished''
-  serving_on = record {
-    bytes = l.on.bytes ++ take r.read bytes';
-    many = length-append l.on.bytes _ ∙ rw (l.on.many, length-take-le r.read bytes' t.some);
+  pub serving_on : {count : ℕ} → count ≡ total + brought r.read → ServedOn (parse file) σ unfinished count υ unfinished''
+  serving_on e = record {
+    bytes = l.on.bytes ++ take (brought r.read) bytes';
+    many = length-append l.on.bytes _ ∙ rw (l.on.many, length-take-le (brought r.read) bytes' t.some) (sym e);
     served = served_then (parse file) l.on.served (turn_served file t l.on.served.serves);
   }
 
-  module _ (few : length bytes' ≤ piece_most) (h : 0 < turns) where
-    pub serving_room : total + r.read < 2 ^ 64
-    serving_room = let m = l.room in let k = t.some in omega arith
-
-    pub serving_turn : Serving (parse file) σ unfinished (total + r.read) (turns - 1) υ unfinished''
-    serving_turn = let m = l.room in let k = t.some in record { on = serving_on; room = omega arith }
+  pub serving_turn : {count : ℕ} → count ≡ total + brought r.read → length bytes' ≤ piece_most → Serving (parse file) σ unfinished count (turns + 1) υ unfinished''
+  serving_turn e few = let m = l.room in let k = t.some in record { on = serving_on e; room = omega arith }
 
 -- The end: nothing is in the way of the last line.
 pub ended_all : (file : List ℕ) {σ : State} {unfinished out : List ℕ} {r : Outcome} {τ : State} {unfinished' out' : List ℕ} → Serves (parse file) σ unfinished → line_most ≤ length out
@@ -151,13 +144,13 @@ ended_all file {σ} {unfinished} {out} s room f =
 -- One result.
 
 pub turned_once : TurnedOnce
-turned_once g σ unfinished lines r s τ υ unfinished' others bytes' lines' other e b p q =
-    let f : Feeds g σ unfinished (take r.read bytes') lines (record { code = 0; written = s.written }) υ others other = rw e q.feeds in
+turned_once g σ unfinished lines r s τ υ unfinished' others bytes' lines' other e p q =
+    let f : Feeds g σ unfinished (take (brought r.read) bytes') lines (record { code = 0; written = s.written }) υ others other = rw e q.feeds in
     let w = one_result.answered_once _ _ _ _ _ _ _ _ _ _ _ _ _ _ _ p.feeds f in
-    (ap (λ (n : ℕ). exchange n r.written r.failed) e ∙ ap (λ (o : Outcome). exchange s.read o.written r.failed) w.0 ∙ ap (exchange s.read s.written) b, w.1, w.2, w.3)
+    (ap (λ (read : Result ℕ Told). exchange read r.written) e ∙ ap (λ (o : Outcome). exchange s.read o.written) w.0, w.1, w.2, w.3)
   where
-    exchange : ℕ → ℕ → Bool → Exchange
-    exchange read written failed = record { read = read; written = written; failed = failed }
+    exchange : Result ℕ Told → ℕ → Exchange
+    exchange read written = record { read = read; written = written }
 
 pub served_once : ServedOnce
 served_once g σ unfinished bytes τ υ unfinished' others p q = p.stands ∙ sym q.stands

@@ -1,6 +1,7 @@
 -- The program between two reads: what a turn begins with, and what a turn, any turns and the end leave. Which bytes a read hands over is the C library's
 -- affair.
-use Rattle.std.specs.Prelude.{◌≡◌, true, List, [], length, take, ℕ, ◌+◌, ◌*◌, ◌/◌, ◌≤◌}
+use Rattle.std.specs.Prelude.{◌≡◌, Result, Ok, Err, IfOk, List, [], length, take, ℕ, ◌+◌, ◌*◌, ◌/◌, ◌≤◌}
+use Rattle.std.specs.Result.{result_unwrap_or}
 use Rattle.plan.specs.Records.{Plan}
 use Rattle.reading.specs.Reading.{Got}
 use Rattle.state.specs.declared.State.{State}
@@ -10,7 +11,7 @@ use Rattle.laws.specs.Written.{Wrote}
 use Rattle.demands.specs.Session.{fed, ended, end_lines}
 use Rattle.signalbox.specs.Face.{in_the_way, too_long, standing, Feeds}
 use Rattle.io.specs.Counts.{IsPrefixLen}
-use Rattle.bench.specs.declared.Piece.{Piece}
+use Rattle.bench.specs.declared.Told.{Told}
 use Rattle.bench.specs.declared.Exchange.{Exchange}
 
 -- The most bytes that one read takes; with two bytes before them they make so many events whole, and there is room for the lines of these.
@@ -32,16 +33,23 @@ pub record Served (g : Got Plan) (σ : State) (unfinished bytes : List ℕ) (τ 
   pub serves : Serves g τ unfinished'
 
 -- A read: so many bytes stand at the start of the buffer, none where it failed.
-pub record Took (r : Piece) (bytes' : List ℕ) : Type 0 where
-  pub some : IsPrefixLen r.read bytes'
-  pub idle : r.failed ≡ true → r.read ≡ 0
+abbrev pub Took : Result ℕ Told → List ℕ → Type 0
+Took r bytes' = IfOk r (λ read. IsPrefixLen read bytes')
+
+-- How many bytes a read has brought: none where it failed.
+abbrev pub brought : Result ℕ Told → ℕ
+brought r = result_unwrap_or r 0
 
 -- A turn: the bytes that now stand at the start of the one buffer were fed, all of them, with the other for their lines. Where the read failed there
 -- are none.
 pub record Turned (g : Got Plan) (σ : State) (unfinished lines : List ℕ) (r : Exchange) (τ : State) (unfinished' bytes' lines' : List ℕ) : Type 0 where
-  pub some : r.read ≤ length bytes'
-  pub idle : r.failed ≡ true → r.read ≡ 0
-  pub feeds : Feeds g σ unfinished (take r.read bytes') lines (record { code = 0; written = r.written }) τ unfinished' lines'
+  pub some : brought r.read ≤ length bytes'
+  pub feeds : Feeds g σ unfinished (take (brought r.read) bytes') lines (record { code = 0; written = r.written }) τ unfinished' lines'
+
+-- How many bytes were read, whether the input has ended or was broken off.
+abbrev pub total : Result ℕ ℕ → ℕ
+total (Ok count) = count
+total (Err count) = count
 
 -- After any number of turns there are bytes of which this holds, as many as were read. A program that leaves the same state, or nothing unfinished,
 -- whatever it began with, doesn't meet this (proofs/Anew.antt).
@@ -61,7 +69,7 @@ pub record Ended (g : Got Plan) (σ : State) (unfinished out : List ℕ) (r : �
 
 abbrev pub TurnedOnce : Type 0
 TurnedOnce =
-    (g : Got Plan) (σ : State) (unfinished lines : List ℕ) (r s : Exchange) (τ υ : State) (unfinished' others bytes' lines' other : List ℕ) → r.read ≡ s.read → r.failed ≡ s.failed
+    (g : Got Plan) (σ : State) (unfinished lines : List ℕ) (r s : Exchange) (τ υ : State) (unfinished' others bytes' lines' other : List ℕ) → r.read ≡ s.read
     → Turned g σ unfinished lines r τ unfinished' bytes' lines' → Turned g σ unfinished lines s υ others bytes' other
     → (r ≡ s) × (τ ≡ υ) × (unfinished' ≡ others) × (lines' ≡ other)
 

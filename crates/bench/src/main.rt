@@ -3,13 +3,13 @@
 // told on standard error, and no more is played then.
 #![tactic(auto)]
 
-ghost use Rattle.std.specs.Prelude.{◌≤◌, length};
+ghost use Rattle.std.specs.Prelude.{◌≤◌, length, IfOk};
 ghost use Rattle.reading.specs.Reading.{parse};
 ghost use Rattle.lines.specs.Lines.{line_most};
 ghost use Rattle.laws.specs.Written.{Wrote};
 ghost use Rattle.demands.specs.Session.{first_line};
 ghost use Rattle.state.specs.Cells.{state_in};
-ghost use Rattle.bench.specs.Serving.{piece_most, lines_most, Serves, Took, Turned, ServedOn, Ended};
+ghost use Rattle.bench.specs.Serving.{piece_most, lines_most, Serves, Took, Turned, total, ServedOn, Ended};
 
 use events::unfinished::UNFINISHED;
 use lines::LINE;
@@ -34,111 +34,83 @@ const LINES: usize = (PIECE + 2) / 3 * LINE;
 // More than the longest reason that the system gives.
 const REASON: usize = 256;
 
+// What is told where something fails.
+const UNOPENED: &str = "bench: plan.bin can't be opened, and counts as empty";
+
+const UNREADABLE: &str = "bench: plan.bin can't be read, and counts as empty";
+
+const UNREAD: &str = "bench: standard input can't be read, and no more is played";
+
+const UNWRITTEN: &str = "bench: standard output can't be written, and no more is played";
+
+// Something has failed, and that was told on standard error.
+#[derive(Clone, Copy)]
+pub struct Told;
+
 // The plan file's bytes. A file that can't be opened, or not read to its end, counts as empty.
-fn load(rt: &(impl Files + Eprint), plan: &mut [u8; PLAN]) -> usize
-    ensures { result ≤ length plan.new }
+fn load<'a>(rt: &(impl Files + Eprint), plan: &'a mut [u8; PLAN]) -> &'a [u8]
+    ensures { length result.now ≤ length plan.old }
 {
-    match File::open(rt, "plan.bin") {
-        Ok(mut file) => fill(rt, &mut file, &mut plan[..]),
-        Err(error) => {
-            fail(
-                rt,
-                "bench: plan.bin can't be opened, and counts as empty",
-                error,
-            );
-            0
-        }
-    }
+    let opened = File::open(rt, "plan.bin").map_err(|error| fail(rt, UNOPENED, error));
+    let read = opened.and_then(|mut file| fill(rt, &mut file, &mut plan[..]));
+    &plan[..read.unwrap_or(0)]
 }
 
 // Reads until the memory is full or the file ends.
-fn fill(rt: &impl Eprint, file: &mut impl Read, bytes: &mut [u8]) -> usize
-    ensures { result ≤ length bytes.new }
+fn fill(rt: &impl Eprint, file: &mut impl Read, bytes: &mut [u8]) -> Result<usize, Told>
+    ensures { IfOk result (λ done. done ≤ length bytes.new) }
 {
     let mut done = 0;
     while done < bytes.len() {
-        let piece = next(
-            rt,
-            file,
-            &mut bytes[done..],
-            "bench: plan.bin can't be read, and counts as empty",
-        );
-        if piece.failed {
-            return 0;
-        }
-        let read = piece.read;
+        let read = next(rt, file, &mut bytes[done..], UNREADABLE)?;
         if read == 0 {
-            return done;
+            break;
         }
         done += read;
     }
-    done
+    Ok(done)
 }
 
-// How many bytes one read has brought, none where it has failed.
-#[derive(Drop)]
-pub struct Piece {
-    pub read: usize,
-    pub failed: bool,
-}
-
-// One read. Where it fails, that is told in these words.
-fn next(rt: &impl Eprint, from: &mut impl Read, bytes: &mut [u8], failure: &str) -> Piece
+// One read: how many bytes it has brought. Where it fails, that is told in these words.
+fn next(
+    rt: &impl Eprint,
+    from: &mut impl Read,
+    bytes: &mut [u8],
+    failure: &str,
+) -> Result<usize, Told>
     ensures { Took result bytes.new }
 {
-    match from.read(bytes) {
-        Ok(read) => Piece {
-            read,
-            failed: false,
-        },
-        Err(error) => {
-            fail(rt, failure, error);
-            Piece {
-                read: 0,
-                failed: true,
-            }
-        }
-    }
+    from.read(bytes).map_err(|error| fail(rt, failure, error))
 }
 
 // Tells on standard error what can't be done, and why: in the system's words, without the number that stands after them. Where that can't be written
 // either, nothing is told.
-fn fail(rt: &impl Eprint, what: &str, error: io::Error) {
+fn fail(rt: &impl Eprint, what: &str, error: io::Error) -> Told {
     let mut reason = Cursor::new([0u8; REASON]);
     let _ = write!(reason, "{error}");
     let reason = reason.into_inner();
     if let Ok(reason) = str::from_utf8(&reason) {
         if let Some((words, _)) = reason.split_once(" (os error ") {
             let _ = eprintln!(rt; "{what}: {words}");
-            return;
+            return Told;
         }
     }
     let _ = eprintln!(rt; "{what}: {error}");
+    Told
 }
 
-// Whether all of it could be written to standard output.
-fn print(rt: &(impl Print + Eprint), lines: &[u8]) -> bool {
-    match rt.write_all(lines) {
-        Ok(()) => true,
-        Err(error) => {
-            fail(
-                rt,
-                "bench: standard output can't be written, and no more is played",
-                error,
-            );
-            false
-        }
-    }
+// Writes all of it to standard output.
+fn print(rt: &(impl Print + Eprint), lines: &[u8]) -> Result<(), Told> {
+    rt.write_all(lines)
+        .map_err(|error| fail(rt, UNWRITTEN, error))
 }
 
 fn main(rt: HostRuntime) {
     let mut plan = [0u8; PLAN];
-    let length = load(&rt, &mut plan);
-    let file = &plan[..length];
+    let file = load(&rt, &mut plan);
     let mut first = [0u8; LINE];
     let count = first_line(file, &mut first[..]);
-    let printed = print(&rt, &first[..count]);
-    if !printed {
+    if print(&rt, &first[..count]).is_err() {
         return;
     }
     if signalbox_read(file) != 0 {
@@ -148,13 +120,12 @@ fn main(rt: HostRuntime) {
     let mut holds = [0u64; TRACKS];
     let mut unfinished = [0u8; UNFINISHED];
     signalbox_fresh(&mut cells, &mut holds, &mut unfinished);
-    let service = serve(&rt, file, &mut cells, &mut holds, &mut unfinished);
-    if !service.ended {
+    if serve(&rt, file, &mut cells, &mut holds, &mut unfinished).is_err() {
         return;
     }
     let mut last = [0u8; LINE];
     let more = last_line(file, &mut cells, &mut holds, &mut unfinished, &mut last[..]);
-    print(&rt, &last[..more]);
+    let _ = print(&rt, &last[..more]);
 }
 
 // The line for the plan.
@@ -182,27 +153,21 @@ fn last_line(
     finished.written
 }
 
-// How many bytes were read, and whether they are the whole input: a read that failed, or a line that can't be written, breaks it off.
-#[derive(Drop)]
-pub struct Service {
-    pub total: usize,
-    pub ended: bool,
-}
-
-// Turn after turn until the input ends, the lines of each written before the next one. It goes on from what it is lent, whatever that is.
+// Turn after turn until the input ends, the lines of each written before the next one. It goes on from what it is lent, whatever that is. Hands back
+// how many bytes were read: until the input ended, or, as an error, until a read that failed or a line that can't be written broke it off.
 fn serve(
     rt: &(impl Input + Print + Eprint),
     plan: &[u8],
     cells: &mut [u8; CELLS],
     holds: &mut [u64; TRACKS],
     unfinished: &mut [u8; UNFINISHED],
-) -> Service
+) -> Result<usize, usize>
     requires { Serves (parse plan.now) (state_in cells.old holds.old) unfinished.old }
-    ensures { ServedOn (parse plan.now) (state_in cells.old holds.old) unfinished.old result.total (state_in cells.new holds.new) unfinished.new }
+    ensures { ServedOn (parse plan.now) (state_in cells.old holds.old) unfinished.old (total result) (state_in cells.new holds.new) unfinished.new }
 {
     let mut total = 0;
-    let mut turns = usize::MAX / PIECE;
-    while turns > 0 {
+    // the bytes of so many turns can be counted
+    for _ in 0..usize::MAX / PIECE {
         let mut bytes = [0u8; PIECE];
         let mut lines = [0u8; LINES];
         let done = turn(
@@ -214,30 +179,21 @@ fn serve(
             &mut bytes[..],
             &mut lines[..],
         );
-        let written = done.written;
-        let printed = print(rt, &lines[..written]);
-        let read = done.read;
+        let read = done.read.map_err(|_| total)?;
         total += read;
-        if !printed || done.failed {
-            break;
-        }
+        print(rt, &lines[..done.written]).map_err(|_| total)?;
         if read == 0 {
-            return Service { total, ended: true };
+            return Ok(total);
         }
-        turns -= 1;
     }
-    Service {
-        total,
-        ended: false,
-    }
+    Err(total)
 }
 
-// How many bytes a turn has read, none at the end of the input or where it can't be read, and how many there are to be written.
+// How many bytes a turn has read, none at the end of the input, and how many there are to be written.
 #[derive(Drop)]
 pub struct Exchange {
-    pub read: usize,
+    pub read: Result<usize, Told>,
     pub written: usize,
-    pub failed: bool,
 }
 
 // One read into the lent memory, and the lines of the events that it makes whole.
@@ -255,18 +211,11 @@ fn turn(
     requires lines_most_in_bounds { lines_most ≤ length lines.old }
     ensures { Turned (parse plan.now) (state_in cells.old holds.old) unfinished.old lines.old result (state_in cells.new holds.new) unfinished.new bytes.new lines.new }
 {
-    let mut input = rt.reader();
-    let piece = next(
-        rt,
-        &mut input,
-        bytes,
-        "bench: standard input can't be read, and no more is played",
-    );
-    let read = piece.read;
-    let fed = signalbox_feed(plan, cells, holds, unfinished, &bytes[..read], lines);
+    let read = next(rt, &mut rt.reader(), bytes, UNREAD);
+    let brought = read.unwrap_or(0);
+    let fed = signalbox_feed(plan, cells, holds, unfinished, &bytes[..brought], lines);
     Exchange {
         read,
         written: fed.written,
-        failed: piece.failed,
     }
 }

@@ -1,4 +1,3 @@
-pub mod Cleared
 pub mod Pairs
 pub mod Table
 pub mod Results

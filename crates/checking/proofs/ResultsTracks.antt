@@ -1,7 +1,6 @@
 -- Written by .ci/contracts --write: for each function of src/tracks.rt, that any two results that its contract allows are the same.
-use Rattle.std.specs.Prelude.{List, ℕ, Bool, ◌≡◌ as ◌is◌, ◌≡◌, true, false, not, cond, ◌&&◌, eqb, length}
+use Rattle.std.specs.Prelude.{List, ℕ, Bool, ◌≡◌ as ◌is◌, Option, ◌≡◌, true, false, not, cond, ◌&&◌, eqb, length}
 use Rattle.laws.specs.Once.{equal_once}
-use Rattle.laws.specs.declared.Found.{Found}
 use Rattle.laws.specs.Search.{lowest}
 use Rattle.plan.specs.Kinds.{forks, legged, out, leg}
 use Rattle.plan.specs.Image.{plan_of}
@@ -44,7 +43,7 @@ pub misleads_once : (image : List ℕ) (to from : ℕ) (first r r₂ : Bool)
     → r is r₂
 misleads_once image to from first r r₂ by_one by_other = equal_once _ _ _ by_one by_other
 
-pub first_pair_once : (image : List ℕ) (r r₂ : Found)
+pub first_pair_once : (image : List ℕ) (r r₂ : Option ℕ)
     → (r ≡ lowest (length (plan_of image).tracks) (λ v. not (led_once (plan_of image) v)))
     → (r₂ ≡ lowest (length (plan_of image).tracks) (λ v. not (led_once (plan_of image) v)))
     → r is r₂

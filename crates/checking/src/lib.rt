@@ -4,89 +4,52 @@
 mod entries;
 mod tracks;
 
-ghost use Rattle.std.specs.Prelude.{◌≡◌, ◌≢◌};
+ghost use Rattle.std.specs.Prelude.{◌≡◌, ℕ, Bool, not, Ok};
+ghost use Rattle.laws.specs.Search.{lowest, unless};
 ghost use Rattle.plan.specs.Image.{plan_of};
-ghost use Rattle.rules.specs.Verdict.{rule_of, lowest_broken, verdict};
+ghost use Rattle.rules.specs.Verdict.{broken, verdict};
 
-use laws::Found;
 use plan::limits::IMAGE;
-use rules::Verdict;
+use rules::Broken;
 
-// The rule of the named form: its rows come from pairs of tracks.
-const PAIRS: usize = 3;
-
-const LAST_RULE: usize = 12;
-
-// The lowest broken rule of a plan with its lowest row.
-pub fn check(image: &[u8; IMAGE]) -> Verdict
+// The lowest broken rule of a plan with its lowest row. Each rule is a test of a row, but for the rule of the named form: its rows come from pairs of
+// tracks.
+pub fn check(image: &[u8; IMAGE]) -> Result<(), Broken>
     ensures { result ≡ verdict (plan_of image.now) }
 {
-    let mut rule = 1;
-    while rule <= LAST_RULE {
-        let found = first_broken(image, rule);
-        if let Found::At(row) = found {
-            return Verdict::Broken { rule, row };
-        }
-        rule += 1;
-    }
-    Verdict::Accepted
+    let tracks = plan::image::tracks(image);
+    let signals = plan::image::signals(image);
+    let routes = plan::image::routes(image);
+    let entries = plan::image::entries(image);
+    each(1, tracks, |track| tracks::ways_differ(image, track))?;
+    each(2, tracks, |track| tracks::legs_lead(image, track))?;
+    broken_by(3, tracks::first_pair(image))?;
+    each(4, signals, |signal| entries::home_plain(image, signal))?;
+    each(5, entries, |entry| entries::entry_placed(image, entry))?;
+    each(6, routes, |route| routes::path_linked(image, route))?;
+    each(7, routes, |route| routes::path_ends(image, route))?;
+    each(8, routes, |route| routes::path_clear(image, route))?;
+    each(9, routes, |route| routes::points_listed(image, route))?;
+    each(10, routes, |route| routes::points_clear(image, route))?;
+    each(11, routes, |route| routes::releases_fit(image, route))?;
+    each(12, entries, |entry| entries::entry_cleared(image, entry))
 }
 
-// The lowest row that breaks a rule.
-fn first_broken(image: &[u8; IMAGE], rule: usize) -> Found
-    ensures { result ≡ lowest_broken (rule_of (plan_of image.now) rule) }
+// Whether each row keeps a rule; if not, the rule is broken by the lowest that does not.
+fn each<F: Fn(usize) -> bool>(rule: usize, rows: usize, keeps: F) -> Result<(), Broken>
+    requires { F.IsAlwaysCallable keeps }
+    ensures { (test : ℕ → Bool) → ((row : ℕ) (kept : Bool) → F.post keeps row kept → kept ≡ test row) → result ≡ unless (lowest rows (λ i. not (test i))) (broken rule) (Ok tt) }
 {
-    if rule == PAIRS {
-        return tracks::first_pair(image);
-    }
-    first_row(image, rule)
+    broken_by(rule, (0..rows).find(|row| !keeps(*row)))
 }
 
-fn first_row(image: &[u8; IMAGE], rule: usize) -> Found
-    requires { rule ≢ 3 }
-    ensures { result ≡ lowest_broken (rule_of (plan_of image.now) rule) }
+// A rule is broken by the row that is found, if there is one.
+#[tactic(auto, unfolding(laws::specs::Search::unless))]
+fn broken_by(rule: usize, row: Option<usize>) -> Result<(), Broken>
+    ensures { result ≡ unless row (broken rule) (Ok tt) }
 {
-    let count = rows(image, rule);
-    let mut row = 0;
-    while row < count {
-        if !holds(image, rule, row) {
-            return Found::At(row);
-        }
-        row += 1;
-    }
-    Found::Nothing
-}
-
-// How many rows a rule goes over.
-fn rows(image: &[u8; IMAGE], rule: usize) -> usize
-    ensures { result ≡ (rule_of (plan_of image.now) rule).rows }
-{
-    match rule {
-        1 | 2 | 3 => plan::image::tracks(image),
-        4 => plan::image::signals(image),
-        6 | 7 | 8 | 9 | 10 | 11 => plan::image::routes(image),
-        5 | 12 => plan::image::entries(image),
-        _ => 0,
-    }
-}
-
-// Whether a row keeps a rule.
-fn holds(image: &[u8; IMAGE], rule: usize, row: usize) -> bool
-    requires { rule ≢ 3 }
-    ensures { result ≡ (rule_of (plan_of image.now) rule).test row }
-{
-    match rule {
-        1 => tracks::ways_differ(image, row),
-        2 => tracks::legs_lead(image, row),
-        4 => entries::home_plain(image, row),
-        5 => entries::entry_placed(image, row),
-        6 => routes::path_linked(image, row),
-        7 => routes::path_ends(image, row),
-        8 => routes::path_clear(image, row),
-        9 => routes::points_listed(image, row),
-        10 => routes::points_clear(image, row),
-        11 => routes::releases_fit(image, row),
-        12 => entries::entry_cleared(image, row),
-        _ => true,
+    match row {
+        None => Ok(()),
+        Some(row) => Err(Broken { rule, row }),
     }
 }

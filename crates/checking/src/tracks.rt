@@ -6,7 +6,6 @@ ghost use Rattle.plan.specs.Image.{plan_of};
 ghost use Rattle.plan.specs.Records.{track_of};
 ghost use Rattle.rules.specs.Rules.{ways_differ, legs_lead, is_leg, none_leads, led_once};
 
-use laws::Found;
 use layout::{is_forking, is_legged, leads_to, leg_of, way_out};
 use plan::image::tracks;
 use plan::limits::IMAGE;
@@ -15,50 +14,37 @@ use plan::limits::IMAGE;
 fn ways_meet(image: &[u8; IMAGE], track: usize) -> bool
     ensures { result ≡ (forks (track_of (plan_of image.now) track) && eqb (out (track_of (plan_of image.now) track) false) (out (track_of (plan_of image.now) track) true)) }
 {
-    if is_forking(image, track) {
-        return way_out(image, track, false) == way_out(image, track, true);
-    }
-    false
+    is_forking(image, track) && way_out(image, track, false) == way_out(image, track, true)
 }
 
 // Whether a trailing point has one leg for both lies.
 fn legs_meet(image: &[u8; IMAGE], track: usize) -> bool
     ensures { result ≡ (legged (track_of (plan_of image.now) track) && eqb (leg (track_of (plan_of image.now) track) false) (leg (track_of (plan_of image.now) track) true)) }
 {
-    if is_legged(image, track) {
-        return leg_of(image, track, false) == leg_of(image, track, true);
-    }
-    false
+    is_legged(image, track) && leg_of(image, track, false) == leg_of(image, track, true)
 }
 
+#[tactic(auto, unfolding(rules::specs::Rules::ways_differ))]
 pub fn ways_differ(image: &[u8; IMAGE], track: usize) -> bool
     ensures { result ≡ ways_differ (plan_of image.now) track }
 {
-    if ways_meet(image, track) {
-        return false;
-    }
-    !legs_meet(image, track)
+    !ways_meet(image, track) && !legs_meet(image, track)
 }
 
+#[tactic(auto, unfolding(rules::specs::Rules::legs_lead))]
 pub fn legs_lead(image: &[u8; IMAGE], track: usize) -> bool
     ensures { result ≡ legs_lead (plan_of image.now) track }
 {
-    if !is_legged(image, track) {
-        return true;
-    }
-    if !leads_to(image, leg_of(image, track, false), track) {
-        return false;
-    }
-    leads_to(image, leg_of(image, track, true), track)
+    !is_legged(image, track)
+        || leads_to(image, leg_of(image, track, false), track)
+            && leads_to(image, leg_of(image, track, true), track)
 }
 
+#[tactic(auto, unfolding(rules::specs::Rules::is_leg))]
 fn is_leg(image: &[u8; IMAGE], point: usize, track: usize) -> bool
     ensures { result ≡ is_leg (plan_of image.now) point track }
 {
-    if leg_of(image, point, false) == track {
-        return true;
-    }
-    leg_of(image, point, true) == track
+    leg_of(image, point, false) == track || leg_of(image, point, true) == track
 }
 
 // Whether a track that leads to another must not, given whether no lower one does.
@@ -66,17 +52,18 @@ fn misleads(image: &[u8; IMAGE], to: usize, from: usize, first: bool) -> bool
     ensures { result ≡ cond (legged (track_of (plan_of image.now) to)) (not (is_leg (plan_of image.now) to from)) (not first) }
 {
     if is_legged(image, to) {
-        return !is_leg(image, to, from);
+        !is_leg(image, to, from)
+    } else {
+        !first
     }
-    !first
 }
 
-// The lowest track to which a track leads that must not.
-pub fn first_pair(image: &[u8; IMAGE]) -> Found
+// The lowest track to which a track leads that must not: the pairs are left at the first that is forbidden.
+pub fn first_pair(image: &[u8; IMAGE]) -> Option<usize>
     ensures { result ≡ lowest (length (plan_of image.now).tracks) (λ v. not (led_once (plan_of image.now) v)) }
 {
     let count = tracks(image);
-    let mut row = Found::Nothing;
+    let mut row = None;
     'pairs: for to in 0..count {
         let mut first = true;
         for from in 0..count {
@@ -84,7 +71,7 @@ pub fn first_pair(image: &[u8; IMAGE]) -> Found
                 continue;
             }
             if misleads(image, to, from, first) {
-                row = Found::At(to);
+                row = Some(to);
                 break 'pairs;
             }
             first = false;
@@ -97,13 +84,5 @@ pub fn first_pair(image: &[u8; IMAGE]) -> Found
 pub fn none_leads(image: &[u8; IMAGE], to: usize) -> bool
     ensures { result ≡ none_leads (plan_of image.now) to (length (plan_of image.now).tracks) }
 {
-    let count = tracks(image);
-    let mut from = 0;
-    while from < count {
-        if leads_to(image, from, to) {
-            return false;
-        }
-        from += 1;
-    }
-    true
+    (0..tracks(image)).all(|from| !leads_to(image, from, to))
 }

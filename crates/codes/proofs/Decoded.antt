@@ -1,9 +1,11 @@
 -- Bytes that are packed come back one by one; number and values are of one outcome alone; and the numbers of the sorts lie apart.
+use Rattle.writing.specs.declared.Unwritten.{Unwritten}
+use Rattle.std.specs.Prelude.{Err, Ok, Result}
 use mathlib.Core.Path.{◌≡◌, refl, sym, ap, ◌∙◌}
 use mathlib.Core.Bool.{cond}
 use mathlib.Core.Logic.{inl, inr}
 use mathlib.Core.List.{List, [], ◌∷◌}
-use Prim.Native.Nat.{ℕ, zero, suc, ◌+◌, ◌/◌, ◌%◌, ◌≤◌}
+use Prim.Native.Nat.{ℕ, zero, suc, ◌+◌, ◌/◌, ◌%◌, ◌<◌, ◌≤◌}
 use native.Mathlib.Omega.{arith}
 use native.Mathlib.Nat.{le_trans, not-suc-le-zero}
 use lib.ListN.{length, get_or, take, length-take}
@@ -21,13 +23,9 @@ use Rattle.reading.specs.Reading.{form, form_number, form_offset, parse}
 use Rattle.reading.proofs.Meaning.{ends_early_lem, bad_byte, left_over_lem, longer_same, same_form, readable_fits}
 use Rattle.images.proofs.Standing.{stands_for}
 use Rattle.writing.specs.declared.Unwritten.TheVariants.{NoFile, NoRoom}
-use Rattle.writing.specs.declared.Written.{Written}
-use Rattle.writing.specs.declared.Written.TheVariants.{Refused as Unwrote, Whole}
 use Rattle.writing.specs.Writing.{written_number, written_length, file_in, written}
 use Rattle.writing.proofs.Answers.{Outcome, unread, short, full, outcome}
-use Rattle.rules.specs.declared.Verdict.{Verdict}
-use Rattle.rules.specs.declared.Verdict.TheVariants.{Accepted, Broken}
-use Rattle.rules.specs.Verdict.{Rule, rules, no_rule, rule_of, verdict, rule_number, rule_row}
+use Rattle.rules.specs.Verdict.{Rule, rules, no_rule, rule_of, verdict, rule_number, rule_row, Verdict, broken}
 use Rattle.rules.proofs.Verdicts.{Says, says, number_listed}
 use Rattle.events.specs.declared.Refusal.TheVariants.{IllFormed, BadEvent, NotRed, Occupied, Held, NotGreen, HomeOccupied, TrainIn, TrainOut, Red}
 use Rattle.events.specs.declared.Harm.TheVariants.{Collision, RunThrough, Derailment}
@@ -143,25 +141,25 @@ form_fits file f e =
 
 -- What comes of writing. A file that is written is some plan's, and none is longer than the longest.
 
-written_byte : (w : Written) → Byte (written_number w)
-written_byte (Unwrote NoFile) = lit≤ tt
-written_byte (Unwrote NoRoom) = lit≤ tt
-written_byte (Whole size) = lit≤ tt
+written_byte : (w : Result ℕ Unwritten) → Byte (written_number w)
+written_byte (Err NoFile) = lit≤ tt
+written_byte (Err NoRoom) = lit≤ tt
+written_byte (Ok size) = lit≤ tt
 
-written_numbers_lem : (w : Written) → ShortFile w → (written_code w % 256 ≡ written_number w) × (written_code w / 256 ≡ written_length w)
+written_numbers_lem : (w : Result ℕ Unwritten) → ShortFile w → (written_code w % 256 ≡ written_number w) × (written_code w / 256 ≡ written_length w)
 unfolding written_code
 written_numbers_lem w h = let b = written_byte w in (omega arith, omega arith)
 
-written_of : ℕ → ℕ → Written
-written_of n size = first_with written_number (Whole size) (Unwrote NoFile ∷ Unwrote NoRoom ∷ Whole size ∷ []) n
+written_of : ℕ → ℕ → Result ℕ Unwritten
+written_of n size = first_with written_number (Ok size) (Err NoFile ∷ Err NoRoom ∷ Ok size ∷ []) n
 
-written_back : (w : Written) → written_of (written_number w) (written_length w) ≡ w
+written_back : (w : Result ℕ Unwritten) → written_of (written_number w) (written_length w) ≡ w
 unfolding written_of first_with
-written_back (Unwrote NoFile) = refl
-written_back (Unwrote NoRoom) = refl
-written_back (Whole size) = refl
+written_back (Err NoFile) = refl
+written_back (Err NoRoom) = refl
+written_back (Ok size) = refl
 
-one_written_lem : (w x : Written) → ShortFile w → ShortFile x → written_code w ≡ written_code x → w ≡ x
+one_written_lem : (w x : Result ℕ Unwritten) → ShortFile w → ShortFile x → written_code w ≡ written_code x → w ≡ x
 one_written_lem w x h k e =
     let a = written_numbers_lem w h in
     let b = written_numbers_lem x k in
@@ -173,7 +171,7 @@ file_fits : (image : List ℕ) (room : ℕ) → length image ≡ image_size → 
 unfolding file_in
 file_fits image room long = go (outcome image room)
   where
-    go : {w : Written} → Outcome image room w → ShortFile w
+    go : {w : Result ℕ Unwritten} → Outcome image room w → ShortFile w
     go (unread n) = lit≤ tt
     go (short y h) = lit≤ tt
     go (full y h) = let ok = (stands_for image long y).0 in omega (arith, readable_fits (plan_of image) ok)
@@ -207,25 +205,28 @@ verdict_row p R = of (verdict p) (says p)
     entries = let few = R.entries.few in omega arith
 
     of : (v : Verdict) → Says p v → Byte (rule_row v)
-    of Accepted w = lit≤ tt
-    of (Broken k i) w =
+    of (Ok u) w = lit≤ tt
+    of (Err b) w =
         let few = rows_few (no_rule ∷ rules p)
         (lit≤ tt, (tracks, (tracks, (tracks, (signals, (entries, (routes, (routes, (routes, (routes, (routes, (routes, (entries, tt)))))))))))))
-        k in
+        b.rule in
         omega (arith, w.inside)
 
 verdict_of : ℕ → ℕ → Verdict
-verdict_of zero row = Accepted
-verdict_of (suc k) row = Broken (suc k) row
+verdict_of zero row = Ok tt
+verdict_of (suc k) row = broken (suc k) row
 
 verdict_back : (p : Plan) → verdict_of (rule_number (verdict p)) (rule_row (verdict p)) ≡ verdict p
 unfolding verdict_of rule_of rule_number rule_row
 verdict_back p = of (verdict p) (says p)
   where
     of : (v : Verdict) → Says p v → verdict_of (rule_number v) (rule_row v) ≡ v
-    of Accepted w = refl
-    of (Broken zero i) w = absurd (not-suc-le-zero w.inside)
-    of (Broken (suc k) i) w = refl
+    of (Ok u) w = refl
+    of (Err b) w = numbered b.rule refl w.inside
+      where
+        numbered : (k : ℕ) → k ≡ b.rule → b.row < (rule_of p b.rule).rows → verdict_of b.rule b.row ≡ Err b
+        numbered zero e h = absurd (not-suc-le-zero {n = b.row} (rw (← e) at h))
+        numbered (suc k) e h = rw (← e) refl
 
 verdict_numbers_lem : (p : Plan) → Readable p → unpacked 2 (verdict_code (verdict p)) ≡ (200 + rule_number (verdict p)) ∷ rule_row (verdict p) ∷ []
 unfolding All verdict_code
@@ -308,11 +309,11 @@ fitting = record {
 }
 
 -- of what sort the number of a writer's answer is
-written_sort_lem : (w : Written) → Tells (written_sort w) (written_code w % 256)
+written_sort_lem : (w : Result ℕ Unwritten) → Tells (written_sort w) (written_code w % 256)
 unfolding written_code
-written_sort_lem (Unwrote NoFile) = refl
-written_sort_lem (Unwrote NoRoom) = refl
-written_sort_lem (Whole size) = omega arith
+written_sort_lem (Err NoFile) = refl
+written_sort_lem (Err NoRoom) = refl
+written_sort_lem (Ok size) = omega arith
 
 apart : Apart
 unfolding form_code

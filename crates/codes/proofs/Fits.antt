@@ -1,4 +1,5 @@
 -- What an answer names is there, and all that is there has a number that is a byte: so number and values of every answer are bytes.
+use Rattle.std.specs.Prelude.{Some}
 use mathlib.Core.Path.{◌≡◌}
 use mathlib.Core.Logic.{inl, inr}
 use mathlib.Core.Bool.{not, ◌&&◌}
@@ -21,7 +22,6 @@ use Rattle.state.specs.State.{no_train, well_formed}
 use Rattle.state.specs.Cells.{trains_from, part, trains_in}
 use Rattle.events.specs.declared.Event.{Event}
 use Rattle.events.specs.declared.Event.TheVariants.{Request, Cancel, Enter, Move, Unknown}
-use Rattle.events.specs.declared.Met.TheVariants.{Train}
 use Rattle.events.specs.declared.Answer.{Answer}
 use Rattle.events.specs.Answers.{refusal_values, harm_values, deed_values, answer_values}
 use Rattle.events.specs.Events.{event_of, first_event, events_of}
@@ -87,7 +87,7 @@ module _ (p : Plan) (R : Readable p) (σ : State) (bytes : All Byte σ.trains) w
   track_byte u h = let k = few_tracks_lem p R in omega arith
 
   -- what 13 names: a track that was found, and the train on it
-  busy_byte : (clear : List ℕ) {u train : ℕ} → busy_train (length p.tracks) clear σ.trains ≡ Train u train → Byte u × Byte train
+  busy_byte : (clear : List ℕ) {u train : ℕ} → busy_train (length p.tracks) clear σ.trains ≡ Some (u, train) → Byte u × Byte train
   busy_byte clear {u} e =
       let (at, stands) = busy_train_at (length p.tracks) clear σ.trains e in
       (track_byte u (lowest_at _ (busy clear σ.trains) at).below, rw (← stands) (train_byte u))

@@ -1,5 +1,5 @@
 -- Written by .ci/contracts --write: for each function of src/lib.rt, that any two results that its contract allows are the same.
-use Rattle.std.specs.Prelude.{ℕ, ◌≡◌ as ◌is◌, ◌≡◌, ◌+◌, ◌*◌, ◌%◌, [], ◌∷◌}
+use Rattle.std.specs.Prelude.{ℕ, ◌≡◌ as ◌is◌, Result, ◌≡◌, ◌+◌, ◌*◌, ◌%◌, [], ◌∷◌}
 use Rattle.laws.specs.Once.{equal_once}
 use Rattle.events.specs.declared.Refusal.{Refusal}
 use Rattle.events.specs.declared.Harm.{Harm}
@@ -7,11 +7,15 @@ use Rattle.events.specs.declared.Deed.{Deed}
 use Rattle.events.specs.declared.Answer.{Answer}
 use Rattle.reading.specs.declared.Form.{Form}
 use Rattle.writing.specs.declared.Unwritten.{Unwritten}
-use Rattle.writing.specs.declared.Written.{Written}
-use Rattle.rules.specs.declared.Verdict.{Verdict}
+use Rattle.rules.specs.declared.Broken.{Broken}
 use Rattle.events.specs.declared.Answer.TheVariants.{Refused, Accident, Done}
-use Rattle.writing.specs.Writing.{unwritten_number}
 use Rattle.codes.specs.Codes.{packed, answer_code, form_code, verdict_code, written_code}
+
+pub byte_once : (value r r₂ : ℕ)
+    → (r ≡ value % 256)
+    → (r₂ ≡ value % 256)
+    → r is r₂
+byte_once value r r₂ by_one by_other = equal_once _ _ _ by_one by_other
 
 pub pack_once : (number first second third r r₂ : ℕ)
     → (r ≡ packed (number ∷ first ∷ second ∷ third ∷ []))
@@ -55,19 +59,13 @@ pub offset_code_once : (number at r r₂ : ℕ)
     → r is r₂
 offset_code_once number at r r₂ by_one by_other = equal_once _ _ _ by_one by_other
 
-pub unwritten_code_once : (why : Unwritten) (r r₂ : ℕ)
-    → (r ≡ unwritten_number why)
-    → (r₂ ≡ unwritten_number why)
-    → r is r₂
-unwritten_code_once why r r₂ by_one by_other = equal_once _ _ _ by_one by_other
-
-pub written_code_once : (written : Written) (r r₂ : ℕ)
+pub written_code_once : (written : Result ℕ Unwritten) (r r₂ : ℕ)
     → (r ≡ written_code written)
     → (r₂ ≡ written_code written)
     → r is r₂
 written_code_once written r r₂ by_one by_other = equal_once _ _ _ by_one by_other
 
-pub verdict_code_once : (verdict : Verdict) (r r₂ : ℕ)
+pub verdict_code_once : (verdict : Result Unit Broken) (r r₂ : ℕ)
     → (r ≡ verdict_code verdict)
     → (r₂ ≡ verdict_code verdict)
     → r is r₂

@@ -1,14 +1,13 @@
 -- What the box says at its public face: each outcome as one number of 64 bits. Its lowest byte is the document's number, its next bytes are the
 -- values that the document names, and the rest is 0.
-use Rattle.std.specs.Prelude.{ℕ, ◌+◌, ◌*◌, ◌%◌, List, [], ◌∷◌}
+use Rattle.writing.specs.declared.Unwritten.{Unwritten}
+use Rattle.std.specs.Prelude.{ℕ, ◌+◌, ◌*◌, ◌%◌, List, [], ◌∷◌, Result}
 use Rattle.plan.specs.Records.{Plan}
 use Rattle.reading.specs.declared.Form.{Form}
 use Rattle.reading.specs.Reading.{Got, form, got, form_number, form_offset}
 use Rattle.writing.specs.declared.Unwritten.TheVariants.{NoRoom}
-use Rattle.writing.specs.declared.Written.{Written}
 use Rattle.writing.specs.Writing.{unwritten_number, written_number, written_length}
-use Rattle.rules.specs.declared.Verdict.{Verdict}
-use Rattle.rules.specs.Verdict.{verdict, rule_number, rule_row}
+use Rattle.rules.specs.Verdict.{verdict, rule_number, rule_row, Verdict}
 use Rattle.events.specs.declared.Answer.{Answer}
 use Rattle.events.specs.Answers.{answer_number, answer_values}
 
@@ -30,7 +29,7 @@ unfoldable pub verdict_code : Verdict → ℕ
 verdict_code v = packed ((200 + rule_number v) ∷ rule_row v ∷ [])
 
 -- what comes of writing a plan: its number, then the length of its file
-unfoldable pub written_code : Written → ℕ
+unfoldable pub written_code : Result ℕ Unwritten → ℕ
 written_code w = written_number w + 256 * (written_length w % 65536)
 
 -- there is too little room for what is to be written, whatever that is

@@ -1,7 +1,8 @@
 -- What can be read from a code: the sort of outcome that it stands for, and the outcome itself. No two outcomes that can come have the same code,
 -- and nothing of what can come is cut where it is put into a byte. Proved in proofs/Decoded.antt. Which values each number has stands in
 -- events/specs/Answers.antt (`answer_values`).
-use Rattle.std.specs.Prelude.{◌≡◌, ◌⊎◌, List, [], ◌∷◌, ℕ, zero, suc, ◌+◌, ◌/◌, ◌%◌, ◌<◌, ◌≤◌, length}
+use Rattle.writing.specs.declared.Unwritten.{Unwritten}
+use Rattle.std.specs.Prelude.{◌≡◌, ◌⊎◌, List, [], ◌∷◌, ℕ, zero, suc, ◌+◌, ◌/◌, ◌%◌, ◌<◌, ◌≤◌, length, Err, Ok, Result}
 use Rattle.laws.specs.Lists.{All}
 use Rattle.plan.specs.Limits.{image_size}
 use Rattle.plan.specs.Records.{Plan}
@@ -9,8 +10,6 @@ use Rattle.plan.specs.File.{Readable}
 use Rattle.reading.specs.declared.Form.{Form}
 use Rattle.reading.specs.Reading.{form, form_number, form_offset, parse}
 use Rattle.writing.specs.declared.Unwritten.TheVariants.{NoFile, NoRoom}
-use Rattle.writing.specs.declared.Written.{Written}
-use Rattle.writing.specs.declared.Written.TheVariants.{Refused, Whole}
 use Rattle.writing.specs.Writing.{unwritten_number, written_number, written_length, written}
 use Rattle.rules.specs.Verdict.{verdict, rule_number, rule_row}
 use Rattle.state.specs.Cells.{state_in}
@@ -46,7 +45,7 @@ ByteEvent Unknown = Unit
 abbrev pub ShortForm : Form → Type 0
 ShortForm f = form_offset f < 65536
 
-abbrev pub ShortFile : Written → Type 0
+abbrev pub ShortFile : Result ℕ Unwritten → Type 0
 ShortFile w = written_length w < 65536
 
 -- The sorts of code, and the lowest bytes of each.
@@ -74,10 +73,10 @@ Tells aLength b = b ≡ 120
 Tells aVerdict b = (200 ≤ b) × (b ≤ 255)
 
 -- of what sort a writer's answer is
-abbrev pub written_sort : Written → Sort
-written_sort (Refused NoFile) = no_file
-written_sort (Refused NoRoom) = too_little
-written_sort (Whole size) = aLength
+abbrev pub written_sort : Result ℕ Unwritten → Sort
+written_sort (Err NoFile) = no_file
+written_sort (Err NoRoom) = too_little
+written_sort (Ok size) = aLength
 
 -- What can come fits: of bytes come events of bytes, and of these answers of bytes, on any plan that a file can hold and in any state that stands in
 -- cells of bytes, whatever the holds; no form stands so far on in a file that its offset is cut, and no file is so long that its length is; a rule's
@@ -97,7 +96,7 @@ pub record Apart : Type 0 where
   pub one : (s t : Sort) (b : ℕ) → Tells s b → Tells t b → s ≡ t
   pub forms : (f : Form) → Tells aForm (form_code f % 256)
   pub answers : (a : Answer) → Tells an_answer (answer_code a % 256)
-  pub written : (w : Written) → Tells (written_sort w) (written_code w % 256)
+  pub written : (w : Result ℕ Unwritten) → Tells (written_sort w) (written_code w % 256)
   pub verdicts : (p : Plan) → Tells aVerdict (verdict_code (verdict p) % 256)
 
 -- The code gives back number and values, and these give the code; they are of one outcome alone, and so is the code.
@@ -109,8 +108,8 @@ pub record Decoding : Type 0 where
   pub one_answer : (a b : Answer) → ByteAnswer a → ByteAnswer b → answer_code a ≡ answer_code b → a ≡ b
   pub form_numbers : (f : Form) → ShortForm f → (form_code f % 256 ≡ form_number f) × (form_code f / 256 ≡ form_offset f)
   pub one_form : (f g : Form) → ShortForm f → ShortForm g → form_code f ≡ form_code g → f ≡ g
-  pub written_numbers : (w : Written) → ShortFile w → (written_code w % 256 ≡ written_number w) × (written_code w / 256 ≡ written_length w)
-  pub one_written : (w x : Written) → ShortFile w → ShortFile x → written_code w ≡ written_code x → w ≡ x
+  pub written_numbers : (w : Result ℕ Unwritten) → ShortFile w → (written_code w % 256 ≡ written_number w) × (written_code w / 256 ≡ written_length w)
+  pub one_written : (w x : Result ℕ Unwritten) → ShortFile w → ShortFile x → written_code w ≡ written_code x → w ≡ x
   pub verdict_numbers : (p : Plan) → Readable p → unpacked 2 (verdict_code (verdict p)) ≡ (200 + rule_number (verdict p)) ∷ rule_row (verdict p) ∷ []
   pub one_verdict : (p q : Plan) → Readable p → Readable q → verdict_code (verdict p) ≡ verdict_code (verdict q) → verdict p ≡ verdict q
 

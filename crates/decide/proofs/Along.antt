@@ -1,66 +1,29 @@
--- Walks along lists: what is left of a list finds what the whole does; on a list that rises the first is the lowest; of two lists the lower of both.
+-- Walks along lists: on a list that rises the first is the lowest; of two lists the lower of both.
+use Rattle.std.specs.Prelude.{cond, None, Option, Some, MatchOption, IsSomeAnd}
 use mathlib.Core.Path.{◌≡◌, refl, sym, ap, ◌∙◌}
 use mathlib.Core.Bool.{Bool, true, false, ◌&&◌, ◌||◌}
-use mathlib.Core.Logic.{◌≢◌, inl, inr}
+use mathlib.Core.Logic.{inl, inr}
 use mathlib.Core.List.{List, [], ◌∷◌}
 use Prim.Native.Nat.{ℕ, zero, suc, ◌+◌, ◌<◌, ◌≤◌}
 use native.Mathlib.Omega.{arith}
-use lib.ListN.{length, get_or, drop}
+use lib.ListN.{length, get_or}
 use lib.Dec.{ltb}
 use borrow.Author.Tests.{ne_eqb, lt-ltb, le-ltb}
-use Rattle.laws.specs.declared.Found.{Found}
-use Rattle.laws.specs.declared.Found.TheVariants.{At, Nothing}
 use Rattle.laws.specs.Tests.{Is, clash, fails, same?, below?, and_r, and_i, or_l, or_r}
-use Rattle.laws.specs.Lists.{All, all_map, any_of, has, In, has_in, in_has, walk_step, walk_end}
+use Rattle.laws.specs.Lists.{All, all_map, has, In, has_in, in_has}
 use Rattle.laws.specs.Search.{lowest, lowest_from, Lowest, lowest?, at_lowest}
 use Rattle.plan.specs.Records.{Plan, route_of, entry_of}
 use Rattle.plan.specs.Routes.{listed}
 use Rattle.plan.specs.File.{Rises, Readable}
 use Rattle.plan.proofs.Says.{point_below}
 use Rattle.state.specs.State.{no_train}
-use Rattle.events.specs.declared.Met.TheVariants.{Train, Nobody}
 use Rattle.events.specs.Decide.{has_train, is_held, busy, with_train, busy_train, turns, held_other, held_point, derails, derailed_point}
 use Rattle.events.proofs.Facts.{rises_lt, route_read, entry_read}
 use Rattle.decide.proofs.Cells.{turns_listed}
 use Rattle.decide.specs.Along.{RisingTracks, first_of, lower}
 
--- A walk in code: what is left of the list from its place i on finds what the list from its start on does.
-pub record Walked (f : ℕ → Bool) (l : List ℕ) (start i : ℕ) : Type 0 where
-  pub left : first_of f (drop i l) ≡ first_of f (drop start l)
-
-module _ {f : ℕ → Bool} {l : List ℕ} {start i : ℕ} (w : Walked f l start i) where
-  module _ {x : ℕ} (h : i < length l) (e : x ≡ get_or l i 0) where
-    pub walk_met : f x ≡ true → At x ≡ first_of f (drop start l)
-    unfolding first_of
-    walk_met t = sym (walk_step l i (first_of f) h ∙ rw (← e, t)) ∙ w.left
-
-    pub walk_on : f x ≡ false → Walked f l start (i + 1)
-    unfolding first_of
-    walk_on t = record { left = sym (walk_step l i (first_of f) h ∙ rw (← e, t)) ∙ w.left }
-
-  pub walk_over : length l ≤ i → Nothing ≡ first_of f (drop start l)
-  unfolding first_of
-  walk_over h = sym (walk_end l i (first_of f) h) ∙ w.left
-
--- A walk that looks for a train: t is the one on the track x that it has come to.
-pub record Looked (trains l : List ℕ) (start i : ℕ) : Type 0 where
-  pub walked : Walked (has_train trains) l start i
-
-module _ {trains l : List ℕ} {start i : ℕ} (w : Looked trains l start i) where
-  module _ {x t : ℕ} (h : i < length l) (e : x ≡ get_or l i 0) (d : t ≡ get_or trains x no_train) where
-    pub look_met : t ≢ no_train → Train x t ≡ with_train trains (first_of (has_train trains) (drop start l))
-    unfolding has_train
-    look_met n = rw d (ap (with_train trains) (walk_met w.walked h e (rw (← d, ne_eqb t no_train n))))
-
-    pub look_on : t ≡ no_train → Looked trains l start (i + 1)
-    unfolding has_train
-    look_on n = record { walked = walk_on w.walked h e (rw (← d, n)) }
-
-  pub look_over : length l ≤ i → Nobody ≡ with_train trains (first_of (has_train trains) (drop start l))
-  look_over h = ap (with_train trains) (walk_over w.walked h)
-
 -- What a search finds: nothing where no number passes, and the same for two tests that agree.
-none_lowest : (n : ℕ) (f : ℕ → Bool) → ((i : ℕ) → i < n → f i ≡ false) → lowest n f ≡ Nothing
+none_lowest : (n : ℕ) (f : ℕ → Bool) → ((i : ℕ) → i < n → f i ≡ false) → lowest n f ≡ None
 none_lowest n f h = elim (lowest? n f) [
   | inl w ↦ clash w.2.passes (h w.0 w.2.below)
   | inr w ↦ w.0
@@ -86,7 +49,7 @@ pub within : {n m : ℕ} (l : List ℕ) → n ≤ m → RisingTracks n l → All
 within l h w = all_map (λ u k. omega arith) l w.each
 
 rising_first : (n : ℕ) (f : ℕ → Bool) (l : List ℕ) → RisingTracks n l → lowest n (λ u. f u && has u l) ≡ first_of f l
-unfolding first_of has any_of All
+unfolding first_of has All
 rising_first n f [] w = none_lowest n _ (λ i h. fails _ (λ e. clash (and_r (f i) false e) refl))
 rising_first n f (x ∷ l) w = go (f x) refl (rising_first n f l (after n x l w))
   where
@@ -106,33 +69,50 @@ rising_first n f (x ∷ l) w = go (f x) refl (rising_first n f l (after n x l w)
     go true t ih = at_lowest n _ record { below = w.each.0; passes = passes t; first = first } ∙ rw t
     go false t ih = lowest_same n _ _ (λ u _. other t u) ∙ ih ∙ rw t
 
+-- What a walk finds is one of the list.
+pub first_below : {n : ℕ} (f : ℕ → Bool) (l : List ℕ) → All (λ u. u < n) l → {x : ℕ} → first_of f l ≡ Some x → x < n
+unfolding first_of All
+first_below f [] w e = cc
+first_below {n} f (y ∷ l) w {x} e = go (f y) refl (first_below f l w.1)
+  where
+    go : (b : Bool) → f y ≡ b → (first_of f l ≡ Some x → x < n) → x < n
+    go true t rest = let found : cond true (Some y) (first_of f l) ≡ Some x = rw t at e in let same : y ≡ x = cc in rw (← same) w.0
+    go false t rest = let found : cond false (Some y) (first_of f l) ≡ Some x = rw t at e in rest found
+
+-- The track that was found, with the train that was read there.
+pub train_found : (trains : List ℕ) {o : Option ℕ} (P : ℕ → ℕ × ℕ → Type 0) (found : Option ℕ) (r : Option (ℕ × ℕ)) → found ≡ o
+    → MatchOption found (r ≡ None) (λ x. IsSomeAnd r (P x)) → ((x : ℕ) (y : ℕ × ℕ) → P x y → y ≡ (x, get_or trains x no_train)) → r ≡ with_train trains o
+train_found trains P None r e m told = rw (← e, m)
+train_found trains P (Some x) None e m told = absurd m
+train_found trains P (Some x) (Some y) e m told = rw (← e, told x y m)
+
 -- A list that doesn't rise tells the two apart: of 5 and 3, in this order, a walk finds 5, and a search by number 3.
-pub walk_is_no_search : let l : List ℕ = 5 ∷ 3 ∷ [] in let f : ℕ → Bool = λ u. ltb 2 u in (first_of f l ≡ At 5) × (lowest 6 (λ u. f u && has u l) ≡ At 3)
-unfolding first_of lowest lowest_from has any_of
+pub walk_is_no_search : let l : List ℕ = 5 ∷ 3 ∷ [] in let f : ℕ → Bool = λ u. ltb 2 u in (first_of f l ≡ Some 5) × (lowest 6 (λ u. f u && has u l) ≡ Some 3)
+unfolding first_of lowest lowest_from has
 walk_is_no_search = (refl, refl)
 
 -- The lower of two that were found.
-module _ {a b : Found} {x y : ℕ} (e : a ≡ At x) (d : b ≡ At y) where
-  pub lower_other : y ≤ x → At y ≡ lower a b
+module _ {a b : Option ℕ} {x y : ℕ} (e : a ≡ Some x) (d : b ≡ Some y) where
+  pub lower_other : y ≤ x → Some y ≡ lower a b
   unfolding lower
   lower_other h = elim (below? y x) [
     | inl k ↦ rw (e, d, lt-ltb y x k)
     | inr k ↦ (let same : y ≡ x = omega arith in rw (e, d, le-ltb y x k, same))
   ]
 
-  pub lower_one : x ≤ y → At x ≡ lower a b
+  pub lower_one : x ≤ y → Some x ≡ lower a b
   unfolding lower
   lower_one h = rw (e, d, le-ltb y x h)
 
-pub lower_both : {a b c d : Found} → a ≡ c → b ≡ d → lower a b ≡ lower c d
+pub lower_both : {a b c d : Option ℕ} → a ≡ c → b ≡ d → lower a b ≡ lower c d
 lower_both e f = rw (e, f)
 
 -- The lowest that passes either test is the lower of what each finds.
 module _ (n : ℕ) (f g : ℕ → Bool) where
-  by_one : {k : ℕ} → Lowest n f k → ((i : ℕ) → i < k → g i ≡ false) → lowest n (λ u. f u || g u) ≡ At k
+  by_one : {k : ℕ} → Lowest n f k → ((i : ℕ) → i < k → g i ≡ false) → lowest n (λ u. f u || g u) ≡ Some k
   by_one {k} l h = at_lowest n _ record { below = l.below; passes = or_l (f k) (g k) l.passes; first = λ i b. rw (l.first i b, h i b) }
 
-  by_other : {k : ℕ} → Lowest n g k → ((i : ℕ) → i < k → f i ≡ false) → lowest n (λ u. f u || g u) ≡ At k
+  by_other : {k : ℕ} → Lowest n g k → ((i : ℕ) → i < k → f i ≡ false) → lowest n (λ u. f u || g u) ≡ Some k
   by_other {k} l h = at_lowest n _ record { below = l.below; passes = or_r (f k) (g k) l.passes; first = λ i b. rw (h i b, l.first i b) }
 
   either_lowest : lowest n (λ u. f u || g u) ≡ lower (lowest n f) (lowest n g)

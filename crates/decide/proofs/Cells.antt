@@ -1,21 +1,16 @@
 -- What the code's tests of one cell say, test by test.
 use mathlib.Core.Path.{◌≡◌, refl, sym, ◌∙◌}
 use mathlib.Core.Bool.{Bool, true, false, not, ◌&&◌}
-use mathlib.Core.Logic.{◌≢◌, inl, inr}
+use mathlib.Core.Logic.{inl, inr}
 use mathlib.Core.List.{List}
 use Prim.Native.Nat.{ℕ}
 use lib.ListN.{get_or}
 use lib.Dec.{eqb}
 use borrow.Author.Tests.{eqb-true, eqb-false, eq-eqb, ne_eqb}
-use Rattle.laws.specs.declared.Found.{Found}
-use Rattle.laws.specs.declared.Found.TheVariants.{At, Nothing}
 use Rattle.laws.specs.Tests.{Is, split, clash, and_r, or_l, or_r}
 use Rattle.laws.specs.Lists.{has}
-use Rattle.plan.specs.Kinds.{legged, out, leg}
-use Rattle.plan.specs.Records.{Plan, track_of}
-use Rattle.plan.specs.Layout.{signal_at}
 use Rattle.plan.specs.Routes.{listed}
-use Rattle.events.specs.Decide.{is_red, is_reverse, lie_after, turns, red_at, way_out, runs_through}
+use Rattle.events.specs.Decide.{lie_after, turns}
 
 -- 14 and 42: a point that would get another lie in the end.
 
@@ -53,39 +48,3 @@ turns_listed normal reverse lies q b = same_and _ _ (λ t. elim (split (has q re
     | inr n ↦ clash (and_r b _ t) (sym (turns_unlisted normal reverse lies q r n))
   ]
 ])
-
--- Two tests, one after the other: the second is made where the first says yes.
-pub and_no : {a c : Bool} (b : Bool) → c ≡ a → c ≡ false → c ≡ (a && b)
-and_no b e n = rw (← e, n)
-
-pub and_yes : {a b c d : Bool} → c ≡ a → c ≡ true → d ≡ b → d ≡ (a && b)
-and_yes e y f = rw (← e, y, f)
-
--- 19: the signal at a track's end, if it is red.
-module _ (p : Plan) (signals : List ℕ) (u : ℕ) {found : Found} (f : found ≡ signal_at p u) where
-  pub red_none : found ≡ Nothing → found ≡ red_at p signals u
-  unfolding red_at
-  red_none e = rw (← f, e)
-
-  module _ {s : ℕ} (e : found ≡ At s) where
-    pub red_shown : get_or signals s 0 ≡ 0 → At s ≡ red_at p signals u
-    unfolding red_at is_red
-    red_shown z = rw (← f, e, eq-eqb (get_or signals s 0) 0 z)
-
-    pub red_green : get_or signals s 0 ≢ 0 → Nothing ≡ red_at p signals u
-    unfolding red_at is_red
-    red_green z = rw (← f, e, ne_eqb (get_or signals s 0) 0 z)
-
--- The track that a train goes to, and 41.
-pub goes : (p : Plan) (lies : List ℕ) (u : ℕ) {lie : Bool} → lie ≡ is_reverse lies u → out (track_of p u) lie ≡ way_out p lies u
-unfolding way_out
-goes p lies u e = rw e
-
-module _ (p : Plan) (lies : List ℕ) (u v : ℕ) where
-  pub runs_free : legged (track_of p v) ≡ false → false ≡ runs_through p lies u v
-  unfolding runs_through
-  runs_free e = rw e
-
-  pub runs_leg : legged (track_of p v) ≡ true → {lie : Bool} → lie ≡ is_reverse lies v → {from : ℕ} → from ≡ leg (track_of p v) lie → not (eqb from u) ≡ runs_through p lies u v
-  unfolding runs_through
-  runs_leg e l f = rw (e, ← l, f)

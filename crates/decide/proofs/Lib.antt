@@ -1,7 +1,10 @@
 pub mod Cells
+pub mod Found
 pub mod Along
 pub mod Told
+pub mod Loops
 pub mod Within
 pub mod Acting
 pub mod Results
+pub mod ResultsChain
 pub mod ResultsTests

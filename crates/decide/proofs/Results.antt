@@ -1,45 +1,41 @@
 -- Written by .ci/contracts --write: for each function of src/lib.rt, that any two results that its contract allows are the same.
-use Rattle.std.specs.Prelude.{List, ℕ, ◌≡◌ as ◌is◌, [], ◌≡◌}
+use Rattle.decide.specs.declared.Junction.{Junction}
+use Rattle.std.specs.Prelude.{ℕ, Result, ◌≡◌ as ◌is◌, ◌≡◌}
+use Rattle.events.specs.declared.Deed.{Deed}
 use Rattle.events.specs.declared.Answer.{Answer}
-use Rattle.laws.specs.Once.{equal_once, any_once}
+use Rattle.laws.specs.Once.{equal_once}
 use Rattle.events.specs.declared.Event.{Event}
-use Rattle.plan.specs.Image.{plan_of}
-use Rattle.state.specs.Cells.{trains_in, lies_in, state_in}
 use Rattle.events.specs.declared.Event.TheVariants.{Request, Cancel, Enter, Move}
-use Rattle.events.specs.Decide.{move_to, decided}
+use Rattle.events.specs.Decide.{decided}
+use Rattle.decide.specs.Chain.{chained}
+use Rattle.decide.specs.Lent.{plan, state}
 
-pub decide_request_once : (image cells holds : List ℕ) (route : ℕ) (r r₂ : Answer)
-    → (r ≡ decided (plan_of image) (state_in cells holds) (Request route))
-    → (r₂ ≡ decided (plan_of image) (state_in cells holds) (Request route))
+pub junction_request_once : (self : Junction) (route : ℕ) (r r₂ : Result Deed Answer)
+    → (r ≡ chained (decided (plan self) (state self) (Request route)))
+    → (r₂ ≡ chained (decided (plan self) (state self) (Request route)))
     → r is r₂
-decide_request_once image cells holds route r r₂ by_one by_other = equal_once _ _ _ by_one by_other
+junction_request_once self route r r₂ by_one by_other = equal_once _ _ _ by_one by_other
 
-pub decide_cancel_once : (image cells : List ℕ) (route : ℕ) (r r₂ : Answer)
-    → ((holds : List ℕ) → r ≡ decided (plan_of image) (state_in cells holds) (Cancel route))
-    → ((holds : List ℕ) → r₂ ≡ decided (plan_of image) (state_in cells holds) (Cancel route))
+pub junction_cancel_once : (self : Junction) (route : ℕ) (r r₂ : Result Deed Answer)
+    → (r ≡ chained (decided (plan self) (state self) (Cancel route)))
+    → (r₂ ≡ chained (decided (plan self) (state self) (Cancel route)))
     → r is r₂
-decide_cancel_once image cells route r r₂ by_one by_other = any_once [] _ _ _ by_one by_other
+junction_cancel_once self route r r₂ by_one by_other = equal_once _ _ _ by_one by_other
 
-pub decide_enter_once : (image cells : List ℕ) (entry train : ℕ) (r r₂ : Answer)
-    → ((holds : List ℕ) → r ≡ decided (plan_of image) (state_in cells holds) (Enter entry train))
-    → ((holds : List ℕ) → r₂ ≡ decided (plan_of image) (state_in cells holds) (Enter entry train))
+pub junction_enter_once : (self : Junction) (entry train : ℕ) (r r₂ : Result Deed Answer)
+    → (r ≡ chained (decided (plan self) (state self) (Enter entry train)))
+    → (r₂ ≡ chained (decided (plan self) (state self) (Enter entry train)))
     → r is r₂
-decide_enter_once image cells entry train r r₂ by_one by_other = any_once [] _ _ _ by_one by_other
+junction_enter_once self entry train r r₂ by_one by_other = equal_once _ _ _ by_one by_other
 
-pub move_to_once : (image cells : List ℕ) (train from to : ℕ) (r r₂ : Answer)
-    → (r ≡ move_to (plan_of image) (trains_in cells) (lies_in cells) train from to)
-    → (r₂ ≡ move_to (plan_of image) (trains_in cells) (lies_in cells) train from to)
+pub junction_go_once : (self : Junction) (train : ℕ) (r r₂ : Result Deed Answer)
+    → (r ≡ chained (decided (plan self) (state self) (Move train)))
+    → (r₂ ≡ chained (decided (plan self) (state self) (Move train)))
     → r is r₂
-move_to_once image cells train from to r r₂ by_one by_other = equal_once _ _ _ by_one by_other
+junction_go_once self train r r₂ by_one by_other = equal_once _ _ _ by_one by_other
 
-pub decide_move_once : (image cells : List ℕ) (train : ℕ) (r r₂ : Answer)
-    → ((holds : List ℕ) → r ≡ decided (plan_of image) (state_in cells holds) (Move train))
-    → ((holds : List ℕ) → r₂ ≡ decided (plan_of image) (state_in cells holds) (Move train))
+pub junction_decide_once : (self : Junction) (event : Event) (r r₂ : Answer)
+    → (r ≡ decided (plan self) (state self) event)
+    → (r₂ ≡ decided (plan self) (state self) event)
     → r is r₂
-decide_move_once image cells train r r₂ by_one by_other = any_once [] _ _ _ by_one by_other
-
-pub decide_once : (image cells holds : List ℕ) (event : Event) (r r₂ : Answer)
-    → (r ≡ decided (plan_of image) (state_in cells holds) event)
-    → (r₂ ≡ decided (plan_of image) (state_in cells holds) event)
-    → r is r₂
-decide_once image cells holds event r r₂ by_one by_other = equal_once _ _ _ by_one by_other
+junction_decide_once self event r r₂ by_one by_other = equal_once _ _ _ by_one by_other

@@ -1,1 +1,4 @@
 pub mod Along
+pub mod Single
+pub mod Chain
+pub mod Lent

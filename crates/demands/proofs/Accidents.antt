@@ -5,7 +5,7 @@ use mathlib.Core.Logic.{inl, inr}
 use Prim.Native.Nat.{ℕ, suc, ◌<◌}
 use native.Mathlib.Omega.{arith}
 use Rattle.laws.specs.Tests.{same?}
-use Rattle.laws.specs.Answers.{None}
+use Rattle.laws.specs.Answers.{NoSuch}
 use Rattle.plan.specs.Kinds.{leg, Exit}
 use Rattle.plan.specs.Records.{Plan, home_of, track_of}
 use Rattle.plan.specs.Layout.{Home}
@@ -28,7 +28,7 @@ use Rattle.demands.proofs.Invariant.{Mobile, Place, Way, Invariant, leg_ahead, g
 
 module _ (p : Plan) (reads : Readable p) (sound : Sound p) (σ : State) (inv : Invariant p σ) (formed : WellFormed p σ) where
   -- the train may go on: its signal is green for a route, or it is on its way and not at the end
-  place : (u : ℕ) → Mobile σ u → None (RedAt p σ u) → (Exit (track_of p u) → ⊥) → (pl : Place p σ u) × (pl.i < path_length p pl.r)
+  place : (u : ℕ) → Mobile σ u → NoSuch (RedAt p σ u) → (Exit (track_of p u) → ⊥) → (pl : Place p σ u) × (pl.i < path_length p pl.r)
   place u t go off = elim (home? p u) [
     | inl h ↦ at_signal h
     | inr h ↦ (let pl = inv.away u t h in (pl, not_last pl h))

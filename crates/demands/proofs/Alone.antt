@@ -7,7 +7,7 @@ use mathlib.Core.List.{List, [], ◌∷◌}
 use Prim.Native.Nat.{ℕ}
 use native.Mathlib.Omega.{arith}
 use lib.ListN.{get_or, set}
-use Rattle.laws.specs.Lists.{empty_from, all_of}
+use Rattle.laws.specs.Lists.{empty_from}
 use Rattle.laws.specs.Search.{all_below}
 use Rattle.plan.specs.Kinds.{facing_kind, forks, point, is_point, uses, limit_of}
 use Rattle.plan.specs.Records.{Plan}
@@ -44,7 +44,7 @@ unfoldable pub turned : State
 turned = state_of fresh.trains (set fresh.lies 0 reverse_lie) fresh.holds fresh.signals
 
 pub turned_formed : well_formed alone turned ≡ true
-unfolding turned fresh again once point_or points_only named_at greens_name lies_known well_formed empty within forks point is_point empty_from all_of all_below
+unfolding turned fresh again once point_or points_only named_at greens_name lies_known well_formed empty within forks point is_point empty_from all_below
 turned_formed = refl
 
 pub turned_not_fresh : turned ≢ fresh

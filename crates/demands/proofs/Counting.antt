@@ -1,11 +1,11 @@
 -- Comings and goings: each answer that lets a train come or go changes what the state shows by just that.
+use Rattle.std.specs.Prelude.{Some}
 use mathlib.Core.Path.{◌≡◌, sym, ap, ◌∙◌}
 use mathlib.Core.Logic.{◌≢◌, ◌⊎◌, inl, inr, ◌↔◌}
 use mathlib.Core.List.{List, [], ◌∷◌, ◌++◌}
 use Prim.Native.Nat.{ℕ, ◌+◌, ◌≤◌}
 use native.Mathlib.Omega.{arith}
 use borrow.Author.Tests.{eq-eqb, ne_eqb}
-use Rattle.laws.specs.declared.Found.TheVariants.{At}
 use Rattle.laws.specs.Tests.{same?}
 use Rattle.plan.specs.Records.{Plan}
 use Rattle.state.specs.declared.State.{State}
@@ -43,11 +43,11 @@ shown_train_lem σ u = (λ e z. let y = shown_none σ u z in omega arith, shown_
 
 -- One more answer.
 
-pub once_same : (u v : ℕ) → u ≡ v → once_at u (At v) ≡ 1
+pub once_same : (u v : ℕ) → u ≡ v → once_at u (Some v) ≡ 1
 unfolding once_at
 once_same u v e = rw (eq-eqb u v e)
 
-pub once_other : (u v : ℕ) → u ≢ v → once_at u (At v) ≡ 0
+pub once_other : (u v : ℕ) → u ≢ v → once_at u (Some v) ≡ 0
 unfolding once_at
 once_other u v d = rw (ne_eqb u v d)
 

@@ -1,9 +1,9 @@
 -- Holds by history: a hold is there exactly if the history splits at the route's latest grant with nothing after it that gives the hold back.
+use Rattle.std.specs.Prelude.{None, Some}
 use mathlib.Core.Path.{◌≡◌, refl, sym, ap, ◌∙◌, subst}
 use mathlib.Core.Logic.{◌≢◌, ◌⊎◌, inl, inr, ◌↔◌}
 use mathlib.Core.List.{List, [], ◌∷◌, ◌++◌, append_assoc}
 use Prim.Native.Nat.{ℕ}
-use Rattle.laws.specs.declared.Found.TheVariants.{At, Nothing}
 use Rattle.laws.specs.Tests.{never, same?}
 use Rattle.laws.specs.Lists.{All}
 use Rattle.plan.specs.Records.{Plan}
@@ -48,10 +48,10 @@ module _ (p : Plan) (r x : ℕ) where
   record Spares (a : Answer) : Type 0 where
     ungranted : a ≢ Done (Granted r)
     uncancelled : a ≢ Done (Cancelled r)
-    unreleased : (v : ℕ) → arrives_on a ≡ At v → Releases p r v x → ⊥
+    unreleased : (v : ℕ) → arrives_on a ≡ Some v → Releases p r v x → ⊥
 
   -- an answer by which no train arrives
-  quiet : {a : Answer} → a ≢ Done (Granted r) → a ≢ Done (Cancelled r) → arrives_on a ≡ Nothing → Spares a
+  quiet : {a : Answer} → a ≢ Done (Granted r) → a ≢ Done (Cancelled r) → arrives_on a ≡ None → Spares a
   quiet g c n = record { ungranted = g; uncancelled = c; unreleased = λ v e. never (cc) }
 
   module _ (σ τ : State) where

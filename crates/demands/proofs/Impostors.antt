@@ -1,5 +1,6 @@
 -- The impostors fail: on the small plan, from fresh, an unknown event must be refused and a first train must be let in; without a clear list a
 -- second one must be called a collision.
+use Rattle.std.specs.Prelude.{Some}
 use mathlib.Core.Path.{◌≡◌, refl, sym, ap, ◌∙◌, subst}
 use mathlib.Core.Logic.{◌≢◌, ◌⊎◌, inl, inr, ◌↔◌}
 use mathlib.Core.List.{List, [], ◌∷◌, ◌++◌}
@@ -7,9 +8,8 @@ use Prim.Native.Nat.{ℕ, ◌+◌, ◌<◌, ◌≤◌}
 use native.Mathlib.Omega.{arith}
 use native.Mathlib.Nat.{not-suc-le-zero, zero-add}
 use lib.ListN.{length}
-use Rattle.laws.specs.declared.Found.TheVariants.{At}
 use Rattle.laws.specs.Tests.{never, same?, below?}
-use Rattle.laws.specs.Answers.{None, LowestSuch, Gives}
+use Rattle.laws.specs.Answers.{NoSuch, LowestSuch, Gives}
 use Rattle.laws.specs.Lists.{All, In}
 use Rattle.plan.specs.Records.{Plan, route_of, entry_of}
 use Rattle.plan.specs.File.{Readable}
@@ -18,7 +18,6 @@ use Rattle.state.specs.declared.State.{State}
 use Rattle.state.specs.State.{no_train, normal_lie, reverse_lie, red, train_at, lie_at, shown_at, HasTrain, Holds, WellFormed, fresh}
 use Rattle.events.specs.declared.Event.{Event}
 use Rattle.events.specs.declared.Event.TheVariants.{Request, Cancel, Enter, Move, Unknown}
-use Rattle.events.specs.declared.Met.TheVariants.{Train}
 use Rattle.events.specs.declared.Refusal.TheVariants.{IllFormed, BadEvent}
 use Rattle.events.specs.declared.Harm.{Harm}
 use Rattle.events.specs.declared.Harm.TheVariants.{Collision}
@@ -54,12 +53,12 @@ known : (train : ℕ) → train ≢ no_train → (0 < length bare.entries) × (t
 unfolding small
 known train t = (omega arith, t)
 
-no_clear : (σ : State) → None (Busy bare σ (entry_of bare 0).clear)
+no_clear : (σ : State) → NoSuch (Busy bare σ (entry_of bare 0).clear)
 unfolding small entry_of
 no_clear σ u b = not-suc-le-zero b.0.1
 
 -- what 13 names is met on the event's clear list
-stranger : (p : Plan) (σ : State) (event : Event) {u train : ℕ} → Meets p σ (clear_for p event) (Train u train)
+stranger : (p : Plan) (σ : State) (event : Event) {u train : ℕ} → Meets p σ (clear_for p event) (Some (u, train))
     → (train_at σ u ≢ train) ⊎ (In u (clear_for p event) → ⊥) ⊎ (HasTrain σ u → ⊥) ⊎ ((v : ℕ) × (v < u) × In v (clear_for p event) × HasTrain σ v) → ⊥
 stranger p σ event (lowest, stands) (inl n) = n stands
 stranger p σ event (lowest, stands) (inr (inl n)) = n lowest.such.0
@@ -68,7 +67,7 @@ stranger p σ event (lowest, stands) (inr (inr (inr (v, h, listed, busy)))) = lo
 
 -- and a cancel, a move and what is no event look at none
 elsewhere : (p : Plan) (σ : State) (event : Event) (n : ℕ) {u train : ℕ} → (event ≡ Cancel n) ⊎ (event ≡ Move n) ⊎ (event ≡ Unknown)
-    → Meets p σ (clear_for p event) (Train u train) → ⊥
+    → Meets p σ (clear_for p event) (Some (u, train)) → ⊥
 elsewhere p σ (Request r) n (inl e) (lowest, stands) = never (cc)
 elsewhere p σ (Request r) n (inr (inl e)) (lowest, stands) = never (cc)
 elsewhere p σ (Request r) n (inr (inr e)) (lowest, stands) = never (cc)
@@ -84,7 +83,7 @@ module _ (p : Plan) (σ : State) (r q : ℕ) where
   abbrev HeldFor : Type 0
   HeldFor =
       WellFormed p σ
-      × ((k : ℕ) × (Request r ≡ Request k) × (k < length p.routes) × SignalRed p σ k × None (Busy p σ (route_of p k).clear) × ((τ : State) × AfterGrant p σ τ k × LowestSuch (HeldTurned σ τ) q))
+      × ((k : ℕ) × (Request r ≡ Request k) × (k < length p.routes) × SignalRed p σ k × NoSuch (Busy p σ (route_of p k).clear) × ((τ : State) × AfterGrant p σ τ k × LowestSuch (HeldTurned σ τ) q))
 
   stiff : HeldFor
       → ((k : ℕ) → Holds σ k q → ⊥) ⊎ ((τ : State) → AfterGrant p σ τ r → (lie_at τ q ≡ lie_at σ q) ⊎ ((x k : ℕ) × (x < q) × Holds σ k x × (lie_at τ x ≢ lie_at σ x))) → ⊥
@@ -98,7 +97,7 @@ module _ (p : Plan) (σ : State) (r q : ℕ) where
   rash (formed, (k, e, known, red, free, rest)) (inl n) = n formed
   rash (formed, (k, e, known, red, free, rest)) (inr (inl n)) = let same : k ≡ r = cc in absurd (omega (arith, known, same, n))
   rash (formed, (k, e, known, red, free, rest)) (inr (inr (inl n))) = let same : k ≡ r = cc in n (subst (λ i. SignalRed p σ i) same red)
-  rash (formed, (k, e, known, red, free, rest)) (inr (inr (inr (u, w, t)))) = let same : k ≡ r = cc in subst (λ i. None (Busy p σ (route_of p i).clear)) same free u (w, t)
+  rash (formed, (k, e, known, red, free, rest)) (inr (inr (inr (u, w, t)))) = let same : k ≡ r = cc in subst (λ i. NoSuch (Busy p σ (route_of p i).clear)) same free u (w, t)
 
 -- a hold after a grant that was not there, or is gone
 robbed : {Before After Own Listed : Type 0} → After ↔ (Before ⊎ (Own × Listed)) → (Before × (After → ⊥)) ⊎ (Own × Listed × (After → ⊥)) ⊎ ((Before → ⊥) × ((Own → ⊥) ⊎ (Listed → ⊥)) × After) → ⊥
@@ -213,7 +212,7 @@ abbrev plan : Plan
 plan = small (0 ∷ [])
 
 -- three trains have come and none has gone: two of them to one track, or one to a track that there isn't
-crowded : (u v w : ℕ) (shows : ℕ → ℕ) → ((x : ℕ) → once_at x (At u) + (once_at x (At v) + (once_at x (At w) + 0)) ≡ shows x) → ((x : ℕ) → shows x ≤ 1) → ((x : ℕ) → shows x ≡ 1 → x < 2) → ⊥
+crowded : (u v w : ℕ) (shows : ℕ → ℕ) → ((x : ℕ) → once_at x (Some u) + (once_at x (Some v) + (once_at x (Some w) + 0)) ≡ shows x) → ((x : ℕ) → shows x ≤ 1) → ((x : ℕ) → shows x ≡ 1 → x < 2) → ⊥
 crowded u v w shows sum most there = elim (same? u v) [
   | inl e ↦ absurd (omega (arith, sum u, most u, itself u, once_same u v e))
   | inr m ↦ (elim (same? u w) [
@@ -225,7 +224,7 @@ crowded u v w shows sum most there = elim (same? u v) [
   ])
 ]
   where
-    itself : (x : ℕ) → once_at x (At x) ≡ 1
+    itself : (x : ℕ) → once_at x (Some x) ≡ 1
     itself x = once_same x x refl
 
 on_a_track : (σ : State) → WellFormed plan σ → (x : ℕ) → HasTrain σ x → x < 2

@@ -1,12 +1,11 @@
 -- Our box meets the demands: its answers are those of the table, and its states follow from them. The rest holds of every such box. Assumes nothing.
+use Rattle.std.specs.Prelude.{Err, Ok}
 use mathlib.Core.Path.{refl}
 use mathlib.Core.Logic.{◌≢◌}
 use Rattle.plan.specs.Records.{Plan}
 use Rattle.reading.specs.Reading.{parse}
 use Rattle.reading.proofs.Meaning.{reads_readable}
-use Rattle.rules.specs.Verdict.{Breaks, verdict, rule_number, rule_row}
-use Rattle.rules.specs.declared.Verdict.{Verdict}
-use Rattle.rules.specs.declared.Verdict.TheVariants.{Accepted, Broken}
+use Rattle.rules.specs.Verdict.{Breaks, verdict, rule_number, rule_row, Verdict}
 use Rattle.rules.proofs.Verdicts.{Says, says, accepted_exactly}
 use Rattle.events.specs.Events.{events_of}
 use Rattle.events.proofs.Given.{given}
@@ -29,9 +28,9 @@ pub judged : Judges verdict
 unfolding rule_number rule_row
 judged = record { accepted = λ p R. accepted_exactly p; broken = λ p R n. named p (verdict p) n (says p) }
   where
-    named : (p : Plan) (v : Verdict) → v ≢ Accepted → Says p v → Breaks p (rule_number v) (rule_row v)
-    named p Accepted n s = absurd (n refl)
-    named p (Broken rule row) n s = s
+    named : (p : Plan) (v : Verdict) → v ≢ Ok tt → Says p v → Breaks p (rule_number v) (rule_row v)
+    named p (Ok u) n s = absurd (n refl)
+    named p (Err b) n s = s
 
 pub shown : Shown
 shown = record {

@@ -1,4 +1,5 @@
 -- Sessions: events after events, bytes after bytes, and demand 3 from call to call. Assumes nothing.
+use Rattle.std.specs.Prelude.{Ok}
 use mathlib.Core.Path.{◌≡◌, refl, sym, ap, ◌∙◌}
 use mathlib.Core.List.{List, [], ◌∷◌, ◌++◌, append_assoc, append-nil}
 use Prim.Native.Nat.{ℕ}
@@ -7,7 +8,6 @@ use Rattle.plan.specs.Records.{Plan}
 use Rattle.plan.specs.File.{Readable}
 use Rattle.reading.specs.Reading.{Got, form, got, parse}
 use Rattle.reading.proofs.Meaning.{reads_readable}
-use Rattle.rules.specs.declared.Verdict.TheVariants.{Accepted}
 use Rattle.rules.specs.Verdict.{verdict}
 use Rattle.rules.proofs.Verdicts.{accepted_exactly}
 use Rattle.state.specs.declared.State.{State}
@@ -78,7 +78,7 @@ cut_anywhere file pieces = ap (λ (l : List ℕ). first_line (parse file) ++ l) 
 cut_state : (file : List ℕ) (pieces : List (List ℕ)) → after_pieces (parse file) begun pieces ≡ between (state_after (parse file) fresh (events_of (whole pieces))) []
 cut_state file pieces = state_cut (parse file) begun pieces
 
-cut_safe : (file : List ℕ) (pieces : List (List ℕ)) {p : Plan} {at : ℕ} {rest : List ℕ} → parse file ≡ got p at rest → verdict p ≡ Accepted
+cut_safe : (file : List ℕ) (pieces : List (List ℕ)) {p : Plan} {at : ℕ} {rest : List ℕ} → parse file ≡ got p at rest → verdict p ≡ Ok tt
     → Safe p (history ours p fresh (events_of (whole pieces))) (after_pieces (parse file) begun pieces).state
 unfolding state_after
 cut_safe file pieces e v = rw (cut_state file pieces, e) (shown.file_safe file (whole pieces) e v)

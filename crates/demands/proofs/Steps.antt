@@ -8,7 +8,7 @@ use native.Mathlib.Omega.{arith}
 use lib.ListN.{length}
 use Rattle.laws.specs.Tests.{same?, below?}
 use Rattle.laws.specs.Lists.{In}
-use Rattle.laws.specs.Answers.{None}
+use Rattle.laws.specs.Answers.{NoSuch}
 use Rattle.plan.specs.Records.{Plan, route_of, entry_of}
 use Rattle.plan.specs.Layout.{Home}
 use Rattle.plan.specs.Routes.{points_of, Listed, Releases, path_length, track_at}
@@ -50,7 +50,7 @@ place_kept pl a = record { r = pl.r; i = pl.i; at = pl.at; ahead = a }
 
 module _ (p : Plan) (reads : Readable p) (sound : Sound p) (σ : State) (inv : Invariant p σ) (τ : State) where
   -- A request granted: its own way was found free and is held now; nothing else changes for the others.
-  module _ (r : ℕ) (known : r < length p.routes) (clear : None (Busy p σ (route_of p r).clear)) (idle : None (HeldOther p σ r)) (g : AfterGrant p σ τ r) where
+  module _ (r : ℕ) (known : r < length p.routes) (clear : NoSuch (Busy p σ (route_of p r).clear)) (idle : NoSuch (HeldOther p σ r)) (g : AfterGrant p σ τ r) where
     grant_ahead : {q n : ℕ} → Ahead p σ q n → Ahead p τ q n
     grant_ahead {q} a = ahead_kept a (λ k h l z. g.trains _ ∙ z) (λ x l kept h. grant_keeps g q x h)
 

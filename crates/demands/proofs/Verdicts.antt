@@ -1,5 +1,6 @@
 -- A plan has one lowest broken rule, with one lowest row, and a file one first bad byte: so a verdict or a reader that meets demand 2 can't name
 -- another.
+use Rattle.std.specs.Prelude.{Ok}
 use mathlib.Core.Path.{◌≡◌, sym, ap, ◌∙◌}
 use mathlib.Core.Logic.{◌≢◌, ◌⊎◌, inl, inr}
 use mathlib.Core.List.{List}
@@ -10,9 +11,7 @@ use Rattle.reading.specs.declared.Form.{Form}
 use Rattle.reading.specs.Reading.{Got, form, got, form_number, form_offset, parse}
 use Rattle.reading.proofs.Meaning.{readable_reads}
 use Rattle.forms.proofs.Meaning.{form_exactly, parse_only}
-use Rattle.rules.specs.declared.Verdict.{Verdict}
-use Rattle.rules.specs.declared.Verdict.TheVariants.{Accepted}
-use Rattle.rules.specs.Verdict.{rule_number, rule_row}
+use Rattle.rules.specs.Verdict.{rule_number, rule_row, Verdict}
 use Rattle.rules.proofs.Verdicts.{broken_once}
 use Rattle.demands.specs.Demands.{Reads, OneReading, Judges}
 
@@ -23,7 +22,7 @@ judged_once verdict other p reads d n o = differ (broken_once p _ _ _ _ (o.broke
     differ : (rule_number (other p) ≡ rule_number (verdict p)) × (rule_row (other p) ≡ rule_row (verdict p)) → ⊥
     differ (k, i) = elim n [ inl z ↦ z k | inr z ↦ z i ]
 
-    neither : verdict p ≢ Accepted
+    neither : verdict p ≢ Ok tt
     neither e = let z = (o.accepted p reads).1 ((d.accepted p reads).0 e) ∙ sym e in differ (ap rule_number z, ap rule_row z)
 
 -- Whatever meets demand 2 of reading is `parse`, which does.

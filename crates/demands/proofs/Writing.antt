@@ -1,5 +1,6 @@
 -- A plan in memory has one file or none, and whoever writes it as the page says can't choose: what was read comes back, and what is read back is what was
 -- given. Assumes nothing.
+use Rattle.std.specs.Prelude.{Err, Ok, Result}
 use mathlib.Core.Path.{◌≡◌, refl, sym, ap, ◌∙◌}
 use mathlib.Core.Logic.{◌≢◌, ◌⊎◌, inl, inr, ◌↔◌}
 use mathlib.Core.List.{List, [], ◌++◌}
@@ -20,8 +21,6 @@ use Rattle.images.specs.Images.{standing}
 use Rattle.images.proofs.Standing.{stands_for, plan_stands}
 use Rattle.writing.specs.declared.Unwritten.{Unwritten}
 use Rattle.writing.specs.declared.Unwritten.TheVariants.{NoFile, NoRoom}
-use Rattle.writing.specs.declared.Written.{Written}
-use Rattle.writing.specs.declared.Written.TheVariants.{Refused, Whole}
 use Rattle.writing.specs.Writing.{file_in, written, after_writing}
 use Rattle.writing.proofs.Answers.{Outcome, unread, short, full, outcome}
 use Rattle.demands.specs.Demands.{Reads, ReadsAs, Writer, Writes, OneWriting, RoundTrip}
@@ -64,7 +63,7 @@ module _ (read : List ℕ → Got Plan) (d : Reads read) where
 
   -- Of any writer that meets demand 2: where it has written, there is a file that reads as the image, and this is what is written.
   module _ (writer : Writer) (w : Writes read writer) where
-    has_written : (image out : List ℕ) (size : ℕ) → length image ≡ image_size → writer.answer image out ≡ Whole size
+    has_written : (image out : List ℕ) (size : ℕ) → length image ≡ image_size → writer.answer image out ≡ Ok size
         → Known image (take size (writer.leaves image out)) × (read (take size (writer.leaves image out)) ≡ got (plan_of image) size [])
     has_written image out size long e = elim (either image long) [
       | inl r ↦ elim (below? (length out) (length (file_of (plan_of image)))) [
@@ -77,7 +76,7 @@ module _ (read : List ℕ → Got Plan) (d : Reads read) where
         file : List ℕ
         file = file_of (plan_of image)
 
-        found : ReadsAs read file image → (writer.answer image out ≡ Whole (length file)) × (writer.leaves image out ≡ file ++ drop (length file) out)
+        found : ReadsAs read file image → (writer.answer image out ≡ Ok (length file)) × (writer.leaves image out ≡ file ++ drop (length file) out)
             → Known image (take size (writer.leaves image out)) × (read (take size (writer.leaves image out)) ≡ got (plan_of image) size [])
         found r (a, l) =
             let same : length file ≡ size = cc in
@@ -93,7 +92,7 @@ module _ (read : List ℕ → Got Plan) (d : Reads read) where
     }
       where
         given : (file out : List ℕ) {p : Plan} → (file ≡ file_of p) × Readable p → length file ≤ length out
-            → (writer.answer (image_of p) out ≡ Whole (length file)) × (take (length file) (writer.leaves (image_of p) out) ≡ file)
+            → (writer.answer (image_of p) out ≡ Ok (length file)) × (take (length file) (writer.leaves (image_of p) out) ≡ file)
         given file out {p} (own, ok) h =
             let r : ReadsAs read file (image_of p) = (p, rw own (d.plans p ok), refl) in
             let (a, l) = w.whole (image_of p) out file r h in
@@ -109,22 +108,22 @@ one_writing read writer other d w o image out long = elim (either read d image l
   | inr n ↦ refused NoFile ((w.none image out long).1 n) ((o.none image out long).1 n)
 ]
   where
-    refused : (why : Unwritten) → writer.answer image out ≡ Refused why → other.answer image out ≡ Refused why
+    refused : (why : Unwritten) → writer.answer image out ≡ Err why → other.answer image out ≡ Err why
         → (writer.answer image out ≡ other.answer image out) × (writer.leaves image out ≡ other.leaves image out)
     refused why a b = (a ∙ sym b, w.kept image out why long a ∙ sym (o.kept image out why long b))
 
 -- Ours meets it.
 
-none_exactly : (image out : List ℕ) → length image ≡ image_size → (written image (length out) ≡ Refused NoFile) ↔ ((file : List ℕ) → ReadsAs parse file image → ⊥)
+none_exactly : (image out : List ℕ) → length image ≡ image_size → (written image (length out) ≡ Err NoFile) ↔ ((file : List ℕ) → ReadsAs parse file image → ⊥)
 unfolding written
 none_exactly image out long = (λ e file r. go (outcome image (length out)) e (known parse parse_reads image file r).stands, back)
   where
-    go : {x : Written} → Outcome image (length out) x → x ≡ Refused NoFile → Is (standing image) → ⊥
+    go : {x : Result ℕ Unwritten} → Outcome image (length out) x → x ≡ Err NoFile → Is (standing image) → ⊥
     go (unread n) z y = clash y n
     go (short y h) z k = never (cc)
     go (full y h) z k = never (cc)
 
-    back : ((file : List ℕ) → ReadsAs parse file image → ⊥) → written image (length out) ≡ Refused NoFile
+    back : ((file : List ℕ) → ReadsAs parse file image → ⊥) → written image (length out) ≡ Err NoFile
     back n = elim (split (standing image)) [ inl y ↦ absurd (n _ (reads_it parse parse_reads image long y)) | inr f ↦ rw f ]
 
 pub our_writes : Writes parse our_writer
@@ -137,17 +136,17 @@ our_writes = record {
   kept = λ image out why long e. rw e;
 }
   where
-    short_exactly : (image out file : List ℕ) → Is (standing image) → file ≡ file_of (plan_of image) → (written image (length out) ≡ Refused NoRoom) ↔ (length out < length file)
+    short_exactly : (image out file : List ℕ) → Is (standing image) → file ≡ file_of (plan_of image) → (written image (length out) ≡ Err NoRoom) ↔ (length out < length file)
     short_exactly image out file y own = (λ e. rw own (go (outcome image (length out)) e), λ h. rw (y, ← own, lt-ltb (length out) (length file) h))
       where
-        go : {x : Written} → Outcome image (length out) x → x ≡ Refused NoRoom → length out < length (file_of (plan_of image))
+        go : {x : Result ℕ Unwritten} → Outcome image (length out) x → x ≡ Err NoRoom → length out < length (file_of (plan_of image))
         go (unread n) z = clash y n
         go (short k h) z = h
         go (full k h) z = never (cc)
 
 -- Writers that would pass for one.
 
-pub refuses_all : (read : List ℕ → Got Plan) → Reads read → (writer : Writer) → ((image out : List ℕ) → (why : Unwritten) × (writer.answer image out ≡ Refused why))
+pub refuses_all : (read : List ℕ → Got Plan) → Reads read → (writer : Writer) → ((image out : List ℕ) → (why : Unwritten) × (writer.answer image out ≡ Err why))
     → Writes read writer → ⊥
 refuses_all read d writer all w =
     let p = small [] in

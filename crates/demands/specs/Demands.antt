@@ -5,21 +5,21 @@
 --   plan/specs/Layout.antt       Leads, Home, StandsAt; plan/specs/Routes.antt: track_at, points_of, Listed, Released, Releases, what a route says
 --   plan/specs/File.antt         file_of, the file of a plan, and Readable, the plans that a file can hold
 --   plan/specs/Image.antt        image_of, the memory of a plan, and plan_of, the plan that any memory shows
---   writing/src/lib.rt           Written, what a writer answers; writing/specs/Writing.antt: its numbers
+--   writing/src/lib.rt           Unwritten, why a writer writes nothing; writing/specs/Writing.antt: the numbers of what it answers
 --   forms/specs/Forms.antt       plan_file, the plan file byte by byte: what the next byte must be, by those before it; Formed, the table of forms (1 to 5), each as its
 --                                sentence of the first byte that is not right; forms/specs/Rows.antt: TrackRow and its like, which byte of a row is which
 --   forms/specs/Shown.antt       OneForm, exactly one form for a file that is no plan's; Longest, the largest file
 --   reading/specs/Reading.antt   Got, what a reader gives: a plan or a form (reading/src/lib.rt); form_number and form_offset, its number and offset
 --   rules/specs/Sentences.antt   the twelve plan rules, each as its sentence of a row
 --   rules/specs/Verdict.antt     rules, their list; Sound, each sentence is true of every row; Breaks, the lowest broken rule and row; rule_number and rule_row, the
---                                document's numbers of a Verdict (rules/src/lib.rt)
+--                                document's numbers of a Verdict, which is nothing or a Broken (rules/src/lib.rt)
 --   state/specs/State.antt       State (state/src/lib.rt) and its views train_at, HasTrain, lie_at, normal_lie, reverse_lie, Holds; fresh; WellFormed
---   events/src/lib.rt            Event, Answer, Refusal, Met, Harm, Deed; events/specs/Events.antt: events_of, the events of any bytes
+--   events/src/lib.rt            Event, Answer, Refusal, Harm, Deed; events/specs/Events.antt: events_of, the events of any bytes
 --   events/specs/Answers.antt    comes_on, arrives_on, leaves_from: where an answer, if it is a deed (if_done), brings a train or takes one away
 --   events/specs/Meaning.antt    Given, the table of answers, and of its sentences Busy, OtherLie, SignalRed, InPlan; Follows, what a state shows after an
 --                                answer, and AfterGrant after a grant; SameTrains and so on; Alike; clear_for and Meets, what is met on the clear list of an event
---   laws/specs/Answers.antt      Table, the rows of a table of answers, and Gives, the answer that it gives; None, LowestSuch
---   laws/specs/Lists.antt        All: each element of a list is so; In: a number stands in a list; laws/src/lib.rt: Found; laws/specs/Sets.antt: member, the bits
+--   laws/specs/Answers.antt      Table, the rows of a table of answers, and Gives, the answer that it gives; NoSuch, LowestSuch
+--   laws/specs/Lists.antt        All: each element of a list is so; In: a number stands in a list; laws/specs/Sets.antt: member, the bits
 --                                of a number (a route holds a point); laws/specs/Tests.antt: Is, a test is passed
 -- Demand 1, always an answer, needs no definition here: the functions of the public face (signalbox/src/lib.rt) ask nothing of their callers, and
 -- every function is proved to end. What is printed for any input, however it is cut, and demand 3 from call to call stand in Session.antt.
@@ -28,11 +28,9 @@
 -- list, `x ∷ l` x before the list l, `k ++ l` one after the other; `get_or l i d` the i-th of l, d where there is none; `cond test yes no`; `suc n` n + 1; `take n l` the first n of
 -- l, `drop n l` those after them; `.0`, `.1` the first and second of a pair. A `record` holds all of its lines, a `data` one of its cases; what stands in `{ }` can be read off from the rest; `abbrev` and
 -- `unfoldable` are for the prover. These, and what the kit has of numbers and lists, are all that is used beside the definitions above.
-use Rattle.std.specs.Prelude.{◌≡◌, cond, ◌≢◌, ◌⊎◌, ◌↔◌, List, [], ◌∷◌, ◌++◌, ℕ, ◌+◌, ◌<◌, ◌≤◌, eqb, length, take, drop}
-use Rattle.laws.specs.declared.Found.{Found}
-use Rattle.laws.specs.declared.Found.TheVariants.{At, Nothing}
+use Rattle.std.specs.Prelude.{◌≡◌, cond, ◌≢◌, ◌⊎◌, ◌↔◌, List, [], ◌∷◌, ◌++◌, ℕ, ◌+◌, ◌<◌, ◌≤◌, eqb, length, take, drop, Err, None, Ok, Option, Result, Some}
 use Rattle.laws.specs.Lists.{All, In}
-use Rattle.laws.specs.Answers.{None, LowestSuch}
+use Rattle.laws.specs.Answers.{NoSuch, LowestSuch}
 use Rattle.plan.specs.Limits.{image_size}
 use Rattle.plan.specs.Records.{Plan, route_of, entry_of}
 use Rattle.plan.specs.Routes.{Listed, Releases}
@@ -43,16 +41,11 @@ use Rattle.reading.specs.Reading.{Got, form, got, form_number, form_offset}
 use Rattle.forms.specs.Forms.{Formed, plan_file}
 use Rattle.writing.specs.declared.Unwritten.{Unwritten}
 use Rattle.writing.specs.declared.Unwritten.TheVariants.{NoFile, NoRoom}
-use Rattle.writing.specs.declared.Written.{Written}
-use Rattle.writing.specs.declared.Written.TheVariants.{Refused as Unwrote, Whole}
-use Rattle.rules.specs.declared.Verdict.{Verdict}
-use Rattle.rules.specs.declared.Verdict.TheVariants.{Accepted}
-use Rattle.rules.specs.Verdict.{Sound, Breaks, rule_number, rule_row}
+use Rattle.rules.specs.Verdict.{Sound, Breaks, rule_number, rule_row, Verdict}
 use Rattle.state.specs.declared.State.{State}
 use Rattle.state.specs.State.{no_train, normal_lie, reverse_lie, train_at, lie_at, HasTrain, Holds, WellFormed, fresh}
 use Rattle.events.specs.declared.Event.{Event}
 use Rattle.events.specs.declared.Event.TheVariants.{Request, Enter}
-use Rattle.events.specs.declared.Met.TheVariants.{Train}
 use Rattle.events.specs.declared.Refusal.TheVariants.{IllFormed, Occupied, Held}
 use Rattle.events.specs.declared.Harm.{Harm}
 use Rattle.events.specs.declared.Deed.TheVariants.{Granted, Cancelled, Entered, Moved, Left}
@@ -103,17 +96,17 @@ ReadsAs read file image = (p : Plan) × (read file ≡ got p (length file) []) �
 
 -- What a writer answers for an image and the memory that it is lent, and what it leaves there.
 pub record Writer : Type 0 where
-  pub answer : List ℕ → List ℕ → Written
+  pub answer : List ℕ → List ℕ → Result ℕ Unwritten
   pub leaves : List ℕ → List ℕ → List ℕ
 
 -- Of any bytes as an image, as many as one has, and of any lent memory: 7 (NoFile) exactly when no file reads as the image; else 6 (NoRoom) exactly when the
 -- memory is shorter than the file; else the file's length, and the file at the front of the memory, with what was past it. A refusal leaves it all.
 pub record Writes (read : List ℕ → Got Plan) (writer : Writer) : Type 0 where
-  pub none : (image out : List ℕ) → length image ≡ image_size → (writer.answer image out ≡ Unwrote NoFile) ↔ ((file : List ℕ) → ReadsAs read file image → ⊥)
-  pub short : (image out file : List ℕ) → ReadsAs read file image → (writer.answer image out ≡ Unwrote NoRoom) ↔ (length out < length file)
+  pub none : (image out : List ℕ) → length image ≡ image_size → (writer.answer image out ≡ Err NoFile) ↔ ((file : List ℕ) → ReadsAs read file image → ⊥)
+  pub short : (image out file : List ℕ) → ReadsAs read file image → (writer.answer image out ≡ Err NoRoom) ↔ (length out < length file)
   pub whole : (image out file : List ℕ) → ReadsAs read file image → length file ≤ length out
-      → (writer.answer image out ≡ Whole (length file)) × (writer.leaves image out ≡ file ++ drop (length file) out)
-  pub kept : (image out : List ℕ) (why : Unwritten) → length image ≡ image_size → writer.answer image out ≡ Unwrote why → writer.leaves image out ≡ out
+      → (writer.answer image out ≡ Ok (length file)) × (writer.leaves image out ≡ file ++ drop (length file) out)
+  pub kept : (image out : List ℕ) (why : Unwritten) → length image ≡ image_size → writer.answer image out ≡ Err why → writer.leaves image out ≡ out
 
 -- No choice is left (proofs/Writing.antt, one_writing).
 abbrev pub OneWriting : Type 0
@@ -124,19 +117,19 @@ OneWriting =
 -- Every writer that meets it gives back what was read, and what is read back is what it was given (proofs/Writing.antt, round_trip).
 pub record RoundTrip (read : List ℕ → Got Plan) (writer : Writer) : Type 0 where
   -- reading what was written gives the same plan, and the same image
-  pub again : (image out : List ℕ) (size : ℕ) → length image ≡ image_size → writer.answer image out ≡ Whole size
+  pub again : (image out : List ℕ) (size : ℕ) → length image ≡ image_size → writer.answer image out ≡ Ok size
       → (read (take size (writer.leaves image out)) ≡ got (plan_of image) size []) × (image_of (plan_of image) ≡ image)
   -- writing what was read gives the same bytes
   pub back : (file out : List ℕ) {p : Plan} {at : ℕ} {rest : List ℕ} → read file ≡ got p at rest → length file ≤ length out
-      → (writer.answer (image_of p) out ≡ Whole (length file)) × (take (length file) (writer.leaves (image_of p) out) ≡ file)
+      → (writer.answer (image_of p) out ≡ Ok (length file)) × (take (length file) (writer.leaves (image_of p) out) ≡ file)
   -- a plan that is written is readable, and what is written is its file
-  pub readable : (image out : List ℕ) (size : ℕ) → length image ≡ image_size → writer.answer image out ≡ Whole size
+  pub readable : (image out : List ℕ) (size : ℕ) → length image ≡ image_size → writer.answer image out ≡ Ok size
       → Readable (plan_of image) × (take size (writer.leaves image out) ≡ file_of (plan_of image))
 
 -- Demand 2 of the verdict on a plan: accepted exactly when the twelve sentences hold, else the lowest broken rule with its lowest row.
 pub record Judges (verdict : Plan → Verdict) : Type 0 where
-  pub accepted : (p : Plan) → Readable p → (verdict p ≡ Accepted) ↔ Sound p
-  pub broken : (p : Plan) → Readable p → verdict p ≢ Accepted → Breaks p (rule_number (verdict p)) (rule_row (verdict p))
+  pub accepted : (p : Plan) → Readable p → (verdict p ≡ Ok tt) ↔ Sound p
+  pub broken : (p : Plan) → Readable p → verdict p ≢ Ok tt → Breaks p (rule_number (verdict p)) (rule_row (verdict p))
 
 -- A run: the answers to a list of events, the first one first, and the state reached.
 module _ (box : Box) (p : Plan) where
@@ -151,9 +144,9 @@ module _ (box : Box) (p : Plan) where
 -- Comings and goings, from the answers alone.
 
 -- 1 where the track is the one that is found, else 0
-unfoldable pub once_at : ℕ → Found → ℕ
-once_at u (At v) = cond (eqb u v) 1 0
-once_at u Nothing = 0
+unfoldable pub once_at : ℕ → Option ℕ → ℕ
+once_at u (Some v) = cond (eqb u v) 1 0
+once_at u None = 0
 
 -- a train comes to stand on the track: it enters there, or moves onto it
 abbrev pub comes : ℕ → Answer → ℕ
@@ -179,7 +172,7 @@ pub record SinceGrant (p : Plan) (r x : ℕ) (answers : List Answer) : Type 0 wh
   pub splits : answers ≡ earlier ++ (Done (Granted r) ∷ later)
   pub latest : All (λ answer. answer ≢ Done (Granted r)) later
   pub uncancelled : All (λ answer. answer ≢ Done (Cancelled r)) later
-  pub unreleased : All (λ answer. (v : ℕ) → arrives_on answer ≡ At v → Releases p r v x → ⊥) later
+  pub unreleased : All (λ answer. (v : ℕ) → arrives_on answer ≡ Some v → Releases p r v x → ⊥) later
 
 -- the route lists the point in the lie that it has: among its normal points where it lies normal, among its reverse points where it lies reverse
 abbrev pub ListedAsItLies : Plan → State → ℕ → ℕ → Type 0
@@ -211,11 +204,11 @@ Demand3 box = (p : Plan) → Readable p → Sound p → (events : List Event) �
 -- named, where no test before 13 applies. Every box that meets demand 2 is so (proofs/Agreement.antt, demand2→names_train).
 pub record NamesTrain (box : Box) : Type 0 where
   pub names : (p : Plan) → Readable p → (σ : State) (event : Event) (u train : ℕ) → box.answer p σ event ≡ Refused (Occupied u train)
-      → Meets p σ (clear_for p event) (Train u train)
+      → Meets p σ (clear_for p event) (Some (u, train))
   pub request : (p : Plan) → Readable p → (σ : State) → WellFormed p σ → (r : ℕ) → r < length p.routes → SignalRed p σ r
-      → (u train : ℕ) → Meets p σ (route_of p r).clear (Train u train) → box.answer p σ (Request r) ≡ Refused (Occupied u train)
+      → (u train : ℕ) → Meets p σ (route_of p r).clear (Some (u, train)) → box.answer p σ (Request r) ≡ Refused (Occupied u train)
   pub entry : (p : Plan) → Readable p → (σ : State) → WellFormed p σ → (e other : ℕ) → e < length p.entries → other ≢ no_train → (InPlan p σ other → ⊥)
-      → (u train : ℕ) → Meets p σ (entry_of p e).clear (Train u train) → box.answer p σ (Enter e other) ≡ Refused (Occupied u train)
+      → (u train : ℕ) → Meets p σ (entry_of p e).clear (Some (u, train)) → box.answer p σ (Enter e other) ≡ Refused (Occupied u train)
 
 -- a point that some route holds in a state, and that lies otherwise in another
 abbrev pub HeldTurned : State → State → ℕ → Type 0
@@ -227,9 +220,9 @@ HeldTurned σ τ q = ((k : ℕ) × Holds σ k q) × (lie_at τ q ≢ lie_at σ q
 pub record NamesHeld (box : Box) : Type 0 where
   pub names : (p : Plan) → Readable p → (σ : State) (event : Event) (q : ℕ) → box.answer p σ event ≡ Refused (Held q)
       → WellFormed p σ
-      × ((r : ℕ) × (event ≡ Request r) × (r < length p.routes) × SignalRed p σ r × None (Busy p σ (route_of p r).clear) × ((τ : State) × AfterGrant p σ τ r × LowestSuch (HeldTurned σ τ) q))
+      × ((r : ℕ) × (event ≡ Request r) × (r < length p.routes) × SignalRed p σ r × NoSuch (Busy p σ (route_of p r).clear) × ((τ : State) × AfterGrant p σ τ r × LowestSuch (HeldTurned σ τ) q))
   pub request : (p : Plan) → Readable p → (σ τ : State) → WellFormed p σ → (r : ℕ) → r < length p.routes → SignalRed p σ r
-      → None (Busy p σ (route_of p r).clear) → AfterGrant p σ τ r → (q : ℕ) → LowestSuch (HeldTurned σ τ) q → box.answer p σ (Request r) ≡ Refused (Held q)
+      → NoSuch (Busy p σ (route_of p r).clear) → AfterGrant p σ τ r → (q : ℕ) → LowestSuch (HeldTurned σ τ) q → box.answer p σ (Request r) ≡ Refused (Held q)
   pub still : (p : Plan) → Readable p → (σ : State) (r k q : ℕ) → box.answer p σ (Request r) ≡ Done (Granted r) → Holds σ k q
       → lie_at (box.next p σ (Request r)) q ≡ lie_at σ q
 

@@ -1,9 +1,9 @@
 -- The impostors of document 01, "No loose ends": boxes that would pass for one, and the demand that each of them fails. Ours, beside the document's: boxes
 -- deaf to events or states, one that is right but in one place, one for each part of demand 3, for NamesTrain, NamesHeld, KeepsOwn, Settled and Agreement, and one for each part
 -- of writing, so that none of them is idle.
-use Rattle.std.specs.Prelude.{◌≡◌, ◌≢◌, ◌⊎◌, List, [], ◌∷◌, ℕ, ◌+◌, ◌<◌, ◌≤◌, length, get_or}
+use Rattle.std.specs.Prelude.{◌≡◌, ◌≢◌, ◌⊎◌, List, [], ◌∷◌, ℕ, ◌+◌, ◌<◌, ◌≤◌, length, get_or, Err}
 use Rattle.laws.specs.Lists.{In}
-use Rattle.laws.specs.Answers.{None, LowestSuch}
+use Rattle.laws.specs.Answers.{NoSuch, LowestSuch}
 use Rattle.plan.specs.Limits.{image_size}
 use Rattle.plan.specs.Records.{Plan, route_of, entry_of}
 use Rattle.plan.specs.Routes.{Listed, Releases}
@@ -12,9 +12,7 @@ use Rattle.reading.specs.declared.Form.{Form}
 use Rattle.reading.specs.Reading.{Got, form, form_number, form_offset}
 use Rattle.writing.specs.declared.Unwritten.{Unwritten}
 use Rattle.writing.specs.declared.Unwritten.TheVariants.{NoFile}
-use Rattle.writing.specs.declared.Written.TheVariants.{Refused as Unwrote}
-use Rattle.rules.specs.declared.Verdict.{Verdict}
-use Rattle.rules.specs.Verdict.{Sound, rule_number, rule_row}
+use Rattle.rules.specs.Verdict.{Sound, rule_number, rule_row, Verdict}
 use Rattle.state.specs.declared.State.{State}
 use Rattle.state.specs.State.{no_train, normal_lie, reverse_lie, red, train_at, lie_at, held_by, shown_at, HasTrain, Holds, WellFormed, fresh}
 use Rattle.events.specs.declared.Event.{Event}
@@ -156,7 +154,7 @@ pub record Impostors : Type 0 where
   pub astray_fails : (box : Box) (p : Plan) → Readable p → (σ : State) (event : Event) (q : ℕ) → ((r : ℕ) → event ≢ Request r)
       → box.answer p σ event ≡ Refused (Held q) → NamesHeld box → ⊥
   pub lax_fails : (box : Box) (p : Plan) → Readable p → (σ τ : State) → WellFormed p σ → (r : ℕ) → r < length p.routes → SignalRed p σ r
-      → None (Busy p σ (route_of p r).clear) → AfterGrant p σ τ r → (k q : ℕ) → Holds σ k q → lie_at τ q ≢ lie_at σ q
+      → NoSuch (Busy p σ (route_of p r).clear) → AfterGrant p σ τ r → (k q : ℕ) → Holds σ k q → lie_at τ q ≢ lie_at σ q
       → ((j x : ℕ) → x < q → Holds σ j x → lie_at τ x ≡ lie_at σ x) → box.answer p σ (Request r) ≢ Refused (Held q) → NamesHeld box → ⊥
   pub turner_fails : (box : Box) (p : Plan) → Readable p → (σ : State) (r k q : ℕ) → box.answer p σ (Request r) ≡ Done (Granted r) → Holds σ k q
       → lie_at (box.next p σ (Request r)) q ≢ lie_at σ q → NamesHeld box → ⊥
@@ -181,17 +179,17 @@ pub record Impostors : Type 0 where
       → ((k : ℕ) → held_by σ k q ≡ held_by τ k q) × (lie_at σ q ≡ lie_at τ q) × (train_at σ q ≡ train_at τ q))
       → box.answer p σ (Request r) ≢ box.answer p τ (Request r) → Agreement box → ⊥
   -- a writer that refuses everything, with 7 or for whatever reason; one that leaves another byte past the file than was there
-  pub miser_fails : (read : List ℕ → Got Plan) → Reads read → (writer : Writer) → ((image out : List ℕ) → (why : Unwritten) × (writer.answer image out ≡ Unwrote why))
+  pub miser_fails : (read : List ℕ → Got Plan) → Reads read → (writer : Writer) → ((image out : List ℕ) → (why : Unwritten) × (writer.answer image out ≡ Err why))
       → Writes read writer → ⊥
   pub past_fails : (read : List ℕ → Got Plan) (writer : Writer) (image out file : List ℕ) (i : ℕ) → ReadsAs read file image → length file ≤ i
       → length file ≤ length out → get_or (writer.leaves image out) i 0 ≢ get_or out i 0 → Writes read writer → ⊥
   -- a writer that says something else than 7 where no file reads as the image, 6 for instance; one that refuses a memory that is just long enough; one
   -- whose refusal leaves something else than was there; and one that differs in one place from a writer that meets the demand
   pub blind_fails : (read : List ℕ → Got Plan) (writer : Writer) (image out : List ℕ) → length image ≡ image_size → ((file : List ℕ) → ReadsAs read file image → ⊥)
-      → writer.answer image out ≢ Unwrote NoFile → Writes read writer → ⊥
+      → writer.answer image out ≢ Err NoFile → Writes read writer → ⊥
   pub tight_fails : (read : List ℕ → Got Plan) (writer : Writer) (image out file : List ℕ) (why : Unwritten) → ReadsAs read file image → length out ≡ length file
-      → writer.answer image out ≡ Unwrote why → Writes read writer → ⊥
+      → writer.answer image out ≡ Err why → Writes read writer → ⊥
   pub spoiler_fails : (read : List ℕ → Got Plan) (writer : Writer) (image out : List ℕ) (why : Unwritten) → length image ≡ image_size
-      → writer.answer image out ≡ Unwrote why → writer.leaves image out ≢ out → Writes read writer → ⊥
+      → writer.answer image out ≡ Err why → writer.leaves image out ≢ out → Writes read writer → ⊥
   pub other_fails : (read : List ℕ → Got Plan) (writer other : Writer) (image out : List ℕ) → Reads read → length image ≡ image_size
       → (writer.answer image out ≢ other.answer image out) ⊎ (writer.leaves image out ≢ other.leaves image out) → Writes read writer → Writes read other → ⊥

@@ -1,6 +1,6 @@
 -- Our box: what the code of the rooms below answers and leaves, as their contracts say it, and what is shown of it. The demands stand in
 -- Demands.antt; the proofs in proofs/Ours.antt.
-use Rattle.std.specs.Prelude.{◌≡◌, List, ℕ, length}
+use Rattle.std.specs.Prelude.{◌≡◌, List, ℕ, length, Ok}
 use Rattle.plan.specs.declared.Release.{Release}
 use Rattle.plan.specs.Records.{Plan, Route, Entry}
 use Rattle.plan.specs.declared.Track.{Track}
@@ -8,7 +8,6 @@ use Rattle.reading.specs.Reading.{got, parse}
 use Rattle.forms.specs.Shown.{OneForm, Longest}
 use Rattle.forms.specs.Rows.{TrackRow, ReleaseRow, RouteRow, EntryRow}
 use Rattle.writing.specs.Writing.{written, after_writing}
-use Rattle.rules.specs.declared.Verdict.TheVariants.{Accepted}
 use Rattle.rules.specs.Verdict.{verdict}
 use Rattle.state.specs.State.{fresh}
 use Rattle.events.specs.Events.{events_of}
@@ -42,7 +41,7 @@ pub record Shown : Type 0 where
   pub round_trip : RoundTrip parse our_writer
   -- demand 3, of every plan that is accepted, and so of every file that reads as one and of any bytes as events
   pub safe : Demand3 ours
-  pub file_safe : (file bytes : List ℕ) {p : Plan} {at : ℕ} {rest : List ℕ} → parse file ≡ got p at rest → verdict p ≡ Accepted
+  pub file_safe : (file bytes : List ℕ) {p : Plan} {at : ℕ} {rest : List ℕ} → parse file ≡ got p at rest → verdict p ≡ Ok tt
       → Safe p (history ours p fresh (events_of bytes)) (reached ours p fresh (events_of bytes))
   -- 13 names the lowest track of the clear list that has a train, and the train that stands there; and is said where it can be
   pub names_train : NamesTrain ours

@@ -1,10 +1,9 @@
 -- A session: what is printed for any bytes as a plan and any bytes as events, the same piece by piece as the events are read, and what is known from
 -- call to call. The proofs stand in proofs/Session.antt.
-use Rattle.std.specs.Prelude.{◌≡◌, List, [], ◌∷◌, ◌++◌, ℕ}
+use Rattle.std.specs.Prelude.{◌≡◌, List, [], ◌∷◌, ◌++◌, ℕ, Ok}
 use Rattle.laws.specs.Lists.{joined}
 use Rattle.plan.specs.Records.{Plan}
 use Rattle.reading.specs.Reading.{Got, form, got, parse}
-use Rattle.rules.specs.declared.Verdict.TheVariants.{Accepted}
 use Rattle.rules.specs.Verdict.{verdict}
 use Rattle.state.specs.declared.State.{State}
 use Rattle.state.specs.State.{fresh}
@@ -96,7 +95,7 @@ unfoldable pub Carries : Got Plan → State → List Event → State → Type 0
 Carries (form f) σ events τ = Unit
 Carries (got p at rest) σ events τ =
     let answers = history ours p σ events in
-    verdict p ≡ Accepted → (before : List Answer) → FromFresh p before σ → FromFresh p (before ++ answers) τ × Safe p (before ++ answers) τ
+    verdict p ≡ Ok tt → (before : List Answer) → FromFresh p before σ → FromFresh p (before ++ answers) τ × Safe p (before ++ answers) τ
 
 -- What is shown of sessions.
 pub record Sessions : Type 0 where
@@ -104,7 +103,7 @@ pub record Sessions : Type 0 where
   pub any_cut : (file : List ℕ) (pieces : List (List ℕ)) → first_line (parse file) ++ piece_lines (parse file) begun pieces ≡ printed file (whole pieces)
   pub any_state : (file : List ℕ) (pieces : List (List ℕ)) → after_pieces (parse file) begun pieces ≡ between (state_after (parse file) fresh (events_of (whole pieces))) []
   -- and where the plan is accepted, demand 3 holds of what was answered and of the state at the end
-  pub any_safe : (file : List ℕ) (pieces : List (List ℕ)) {p : Plan} {at : ℕ} {rest : List ℕ} → parse file ≡ got p at rest → verdict p ≡ Accepted
+  pub any_safe : (file : List ℕ) (pieces : List (List ℕ)) {p : Plan} {at : ℕ} {rest : List ℕ} → parse file ≡ got p at rest → verdict p ≡ Ok tt
       → Safe p (history ours p fresh (events_of (whole pieces))) (after_pieces (parse file) begun pieces).state
   -- the chain of calls starts at the fresh state, with no answers, and any events carry it on
   pub starts : (p : Plan) → FromFresh p [] fresh

@@ -1,4 +1,5 @@
 -- The chain of tests gives the table's answer and no other, on any plan that can be read: a line for each row, with the test that tells its sentence.
+use Rattle.std.specs.Prelude.{None, Option, Some}
 use mathlib.Core.Path.{◌≡◌, refl, sym, ◌∙◌, subst}
 use mathlib.Core.Bool.{Bool, not, ◌&&◌}
 use mathlib.Core.Logic.{◌≢◌, inl, inr, ◌↔◌}
@@ -9,10 +10,8 @@ use lib.ListN.{length}
 use lib.Dec.{eqb, ltb}
 use borrow.Author.Tests.{eqb-false, ne_eqb, lt-ltb, ltb-true}
 use Rattle.laws.specs.Tests.{Is, never, and_l, and_r, and_i, not_t, not_i}
-use Rattle.laws.specs.declared.Found.{Found}
-use Rattle.laws.specs.declared.Found.TheVariants.{At, Nothing}
 use Rattle.laws.specs.Lists.{In}
-use Rattle.laws.specs.Answers.{None, Table, names}
+use Rattle.laws.specs.Answers.{NoSuch, Table, names}
 use Rattle.laws.specs.Search.{lowest, unless}
 use Rattle.laws.specs.Rows.{Finds, Decides, last_row, asks_row, needs_row, needs_not_row, names_row, the_row, found_row, gives_one}
 use Rattle.plan.specs.Records.{Plan, home_of, route_of, entry_of, track_of}
@@ -23,8 +22,6 @@ use Rattle.state.specs.State.{no_train, train_at, WellFormed}
 use Rattle.state.proofs.Formed.{formed, passes}
 use Rattle.events.specs.declared.Event.{Event}
 use Rattle.events.specs.declared.Event.TheVariants.{Request, Cancel, Enter, Move, Unknown}
-use Rattle.events.specs.declared.Met.{Met}
-use Rattle.events.specs.declared.Met.TheVariants.{Train, Nobody}
 use Rattle.events.specs.declared.Refusal.TheVariants.{Occupied}
 use Rattle.events.specs.declared.Answer.{Answer}
 use Rattle.events.specs.declared.Answer.TheVariants.{Refused}
@@ -41,7 +38,7 @@ searches t = record { at = λ x e. search_at t e; nothing = λ e. search_none t 
 module _ (p : Plan) (R : Readable p) (σ : State) where
   -- the row of 13: what its test finds is passed on
   train_row : (clear : List ℕ) → ((u : ℕ) → In u clear → u < length p.tracks) → {c : Answer} {t : Table Answer}
-      → (None (Busy p σ clear) → Decides Answer (Told p σ) t c)
+      → (NoSuch (Busy p σ clear) → Decides Answer (Told p σ) t c)
       → Decides Answer (Told p σ) (names (Busy p σ clear) (λ u. Refused (Occupied u (train_at σ u))) t)
       (unless_train (busy_train (length p.tracks) clear σ.trains) (λ u train. Refused (Occupied u train)) c)
   unfolding unless_train unless refusal_number
@@ -50,12 +47,12 @@ module _ (p : Plan) (R : Readable p) (σ : State) where
       named : ℕ → Answer
       named u = Refused (Occupied u (train_at σ u))
 
-      found : (o : Found) → Finds o (Busy p σ clear) → Decides Answer (Told p σ) (names (Busy p σ clear) named t) (unless o named c)
+      found : (o : Option ℕ) → Finds o (Busy p σ clear) → Decides Answer (Told p σ) (names (Busy p σ clear) named t) (unless o named c)
       found o f = names_row f (λ u l. tt) d
 
-      go : (met : Met) → Meets p σ clear met → Decides Answer (Told p σ) (names (Busy p σ clear) named t) (unless_train met (λ u train. Refused (Occupied u train)) c)
-      go (Train u train) (such, stands) = rw (← stands) (found (At u) (record { at = λ x e. let same : u ≡ x = cc in rw (← same) such; nothing = λ e. never (cc) }))
-      go Nobody none = found Nothing (record { at = λ x e. never (cc); nothing = λ e. none })
+      go : (met : Option (ℕ × ℕ)) → Meets p σ clear met → Decides Answer (Told p σ) (names (Busy p σ clear) named t) (unless_train met (λ u train. Refused (Occupied u train)) c)
+      go (Some (u, train)) (such, stands) = rw (← stands) (found (Some u) (record { at = λ x e. let same : u ≡ x = cc in rw (← same) such; nothing = λ e. never (cc) }))
+      go None none = found None (record { at = λ x e. never (cc); nothing = λ e. none })
 
   module _ (W : WellFormed p σ) where
     abbrev Answers : Event → Type 0

@@ -1,5 +1,6 @@
 -- 13 is given by the test of a clear list alone, and names what that test met; and what is met there is named. So for 14, by the test of the points
 -- that are held and would be turned.
+use Rattle.std.specs.Prelude.{None, Option, Some}
 use mathlib.Core.Path.{◌≡◌, refl, ap, ◌∙◌, subst}
 use mathlib.Core.Bool.{false, not, ◌&&◌}
 use mathlib.Core.Logic.{◌≢◌}
@@ -10,7 +11,7 @@ use lib.Dec.{eqb, ltb}
 use borrow.Author.Tests.{ne_eqb, lt-ltb, ltb-true}
 use Rattle.laws.specs.Tests.{never, fails, and_l}
 use Rattle.laws.specs.Lists.{In}
-use Rattle.laws.specs.Answers.{None, LowestSuch}
+use Rattle.laws.specs.Answers.{NoSuch, LowestSuch}
 use Rattle.laws.specs.Search.{unless, cond_ind, unless_ind}
 use Rattle.plan.specs.Kinds.{exit}
 use Rattle.plan.specs.Records.{Plan, home_of, route_of, entry_of, track_of}
@@ -20,8 +21,6 @@ use Rattle.state.specs.State.{no_train, train_at, well_formed, WellFormed}
 use Rattle.state.proofs.Formed.{formed, passes}
 use Rattle.events.specs.declared.Event.{Event}
 use Rattle.events.specs.declared.Event.TheVariants.{Request, Cancel, Enter, Move, Unknown}
-use Rattle.events.specs.declared.Met.{Met}
-use Rattle.events.specs.declared.Met.TheVariants.{Train, Nobody}
 use Rattle.events.specs.declared.Refusal.TheVariants.{Occupied, Held, NotGreen, HomeOccupied, TrainIn, TrainOut, Red}
 use Rattle.events.specs.declared.Harm.TheVariants.{Collision, RunThrough}
 use Rattle.events.specs.declared.Deed.TheVariants.{Cancelled, Entered, Moved, Left}
@@ -65,7 +64,7 @@ module _ (p : Plan) (σ : State) (Q : Answer → Type 0) where
 
 module _ (p : Plan) (R : Readable p) (σ : State) (u train : ℕ) where
   abbrev Named : List ℕ → Answer → Type 0
-  Named clear a = a ≡ Refused (Occupied u train) → Meets p σ clear (Train u train)
+  Named clear a = a ≡ Refused (Occupied u train) → Meets p σ clear (Some (u, train))
 
   test_named : (clear : List ℕ) → ((x : ℕ) → In x clear → x < length p.tracks) → {rest : Answer} → Named clear rest
       → Named clear (unless_train (busy_train (length p.tracks) clear σ.trains) (λ x other. Refused (Occupied x other)) rest)
@@ -74,7 +73,7 @@ module _ (p : Plan) (R : Readable p) (σ : State) (u train : ℕ) where
       (λ x other e same.
       let at : x ≡ u = cc in
       let is : other ≡ train = cc in
-      let met : Meets p σ clear (Train x other) = subst (Meets p σ clear) e (busy_train_tells p σ clear (length p.tracks) below) in
+      let met : Meets p σ clear (Some (x, other)) = subst (Meets p σ clear) e (busy_train_tells p σ clear (length p.tracks) below) in
       rw (at, is) at met)
       (λ _. k)
 
@@ -122,18 +121,18 @@ module _ (p : Plan) (R : Readable p) (σ : State) (u train : ℕ) where
   answer_named event = cond_ind (Named (clear_for p event)) (well_formed p σ) (λ _. decided_named event) (λ _ e. never (cc))
 
   -- and what is met is named, where no test before 13 applies
-  met_busy : (clear : List ℕ) → ((x : ℕ) → In x clear → x < length p.tracks) → Meets p σ clear (Train u train)
-      → busy_train (length p.tracks) clear σ.trains ≡ Train u train
+  met_busy : (clear : List ℕ) → ((x : ℕ) → In x clear → x < length p.tracks) → Meets p σ clear (Some (u, train))
+      → busy_train (length p.tracks) clear σ.trains ≡ Some (u, train)
   unfolding busy_train train_at
-  met_busy clear below (lowest, stands) = ap (with_train σ.trains) (at_search (busy_tells p σ clear (length p.tracks) below) lowest) ∙ ap (Train u) stands
+  met_busy clear below (lowest, stands) = ap (with_train σ.trains) (at_search (busy_tells p σ clear (length p.tracks) below) lowest) ∙ ap (λ (t : ℕ). Some (u, t)) stands
 
-  pub request_met : WellFormed p σ → (r : ℕ) → r < length p.routes → SignalRed p σ r → Meets p σ (route_of p r).clear (Train u train)
+  pub request_met : WellFormed p σ → (r : ℕ) → r < length p.routes → SignalRed p σ r → Meets p σ (route_of p r).clear (Some (u, train))
       → answer p σ (Request r) ≡ Refused (Occupied u train)
   unfolding answer decided answer_request unless_train
   request_met W r h red met =
       rw (passes p σ W, lt-ltb r (length p.routes) h, (red_tests σ (route_of p r).start).1 red, met_busy (route_of p r).clear (clear_below p R r h) met)
 
-  pub enter_met : WellFormed p σ → (e other : ℕ) → e < length p.entries → other ≢ no_train → (InPlan p σ other → ⊥) → Meets p σ (entry_of p e).clear (Train u train)
+  pub enter_met : WellFormed p σ → (e other : ℕ) → e < length p.entries → other ≢ no_train → (InPlan p σ other → ⊥) → Meets p σ (entry_of p e).clear (Some (u, train))
       → answer p σ (Enter e other) ≡ Refused (Occupied u train)
   unfolding answer decided answer_enter unless_train
   enter_met W e other h n new met =
@@ -143,7 +142,7 @@ module _ (p : Plan) (R : Readable p) (σ : State) (u train : ℕ) where
 -- 14 is given to a request alone, for the lowest point that is held and lies otherwise than the grant would leave it; and such a point is named.
 module _ (p : Plan) (R : Readable p) (σ : State) (q : ℕ) where
   abbrev pub NamedHeld : Event → Answer → Type 0
-  NamedHeld event a = a ≡ Refused (Held q) → (r : ℕ) × (event ≡ Request r) × (r < length p.routes) × SignalRed p σ r × None (Busy p σ (route_of p r).clear) × LowestSuch (HeldOther p σ r) q
+  NamedHeld event a = a ≡ Refused (Held q) → (r : ℕ) × (event ≡ Request r) × (r < length p.routes) × SignalRed p σ r × NoSuch (Busy p σ (route_of p r).clear) × LowestSuch (HeldOther p σ r) q
 
   request_held : (r : ℕ) → r < length p.routes → NamedHeld (Request r) (answer_request p σ r)
   unfolding answer_request held_point
@@ -185,14 +184,14 @@ module _ (p : Plan) (R : Readable p) (σ : State) (q : ℕ) where
   unfolding answer
   held_formed event = cond_ind (λ a. a ≡ Refused (Held q) → WellFormed p σ) (well_formed p σ) (λ w _. formed p σ w) (λ _ e. never (cc))
 
-  nobody_met : (clear : List ℕ) → ((x : ℕ) → In x clear → x < length p.tracks) → None (Busy p σ clear) → busy_train (length p.tracks) clear σ.trains ≡ Nobody
+  nobody_met : (clear : List ℕ) → ((x : ℕ) → In x clear → x < length p.tracks) → NoSuch (Busy p σ clear) → busy_train (length p.tracks) clear σ.trains ≡ None
   nobody_met clear below none = go (busy_train (length p.tracks) clear σ.trains) (busy_train_tells p σ clear (length p.tracks) below)
     where
-      go : (met : Met) → Meets p σ clear met → met ≡ Nobody
-      go (Train u train) (lowest, stands) = absurd (none u lowest.such)
-      go Nobody n = refl
+      go : (met : Option (ℕ × ℕ)) → Meets p σ clear met → met ≡ None
+      go (Some (u, train)) (lowest, stands) = absurd (none u lowest.such)
+      go None n = refl
 
-  pub request_said : WellFormed p σ → (r : ℕ) → r < length p.routes → SignalRed p σ r → None (Busy p σ (route_of p r).clear) → LowestSuch (HeldOther p σ r) q
+  pub request_said : WellFormed p σ → (r : ℕ) → r < length p.routes → SignalRed p σ r → NoSuch (Busy p σ (route_of p r).clear) → LowestSuch (HeldOther p σ r) q
       → answer p σ (Request r) ≡ Refused (Held q)
   unfolding answer decided answer_request unless_train held_point unless
   request_said W r h red none lowest =

@@ -4,8 +4,8 @@ use mathlib.Core.List.{List, [], ◌∷◌, ◌++◌, append_assoc}
 use Prim.Native.Nat.{ℕ, zero, suc, ◌+◌, ◌-◌, ◌*◌, ◌/◌, ◌%◌, ◌<◌, ◌≤◌, min}
 use native.Mathlib.Nat.{add-zero}
 use native.Mathlib.Omega.{arith}
-use lib.ListN.{length, get_or, drop, length-take, length-append, get_or-append, get_or-eq_default}
-use lib.Seq.{get_or-take, get_or-drop, get_or-append-add, drop-append-add}
+use lib.ListN.{length, get_or, drop, length-take, length-append, get_or-append}
+use lib.Seq.{get_or-take, get_or-drop, drop-append-add}
 use Rattle.events.specs.declared.Event.{Event}
 use Rattle.events.specs.declared.Event.TheVariants.{Unknown}
 use Rattle.events.specs.Events.{event_of, first_event, events_of, whole_events, left_over, unfinished_in, unfinished_cells}
@@ -108,12 +108,10 @@ cells_hold (a ∷ []) h = refl
 cells_hold (a ∷ (b ∷ [])) h = refl
 cells_hold (a ∷ (b ∷ (c ∷ x))) h = absurd (omega arith)
 
-module _ (cells : List ℕ) {count : ℕ} where
-  pub waiting_few : count ≡ get_or cells 0 0 → count < 2 → count ≡ length (unfinished_in cells)
-  waiting_few e h = let w = waiting_count cells in omega arith
-
-  pub waiting_two : count ≡ get_or cells 0 0 → 2 ≤ count → 2 ≡ length (unfinished_in cells)
-  waiting_two e h = let w = waiting_count cells in omega arith
+two_cells : (cells : List ℕ) (i : ℕ) → i < 2 → get_or (get_or cells 1 0 ∷ (get_or cells 2 0 ∷ [])) i 0 ≡ get_or cells (i + 1) 0
+two_cells cells zero h = refl
+two_cells cells (suc zero) h = refl
+two_cells cells (suc (suc i)) h = absurd (omega arith)
 
 -- An unfinished event and the next bytes, in the steps that the code takes.
 module _ (cells bytes : List ℕ) {count : ℕ} (e : count ≡ length (unfinished_in cells)) where
@@ -126,30 +124,16 @@ module _ (cells bytes : List ℕ) {count : ℕ} (e : count ≡ length (unfinishe
   pub few : count ≤ 2
   few = let w = waiting_count cells in omega arith
 
-  -- the byte at a place
-  module _ (i : ℕ) where
-    kept_at : i < count → get_or all i 0 ≡ get_or (get_or cells 1 0 ∷ (get_or cells 2 0 ∷ [])) i 0
-    unfolding unfinished_in
-    kept_at h =
-        let w = waiting_count cells in
-        get_or-append (unfinished_in cells) bytes 0 i (rw (← e) h) ∙ get_or-take (get_or cells 0 0) (get_or cells 1 0 ∷ (get_or cells 2 0 ∷ [])) i 0 (omega arith)
-
-    pub byte_first : i < count → i ≡ 0 → get_or cells 1 0 ≡ get_or all i 0
-    byte_first h z = sym (kept_at h ∙ rw z)
-
-    pub byte_second : i < count → (i ≡ 0 → ⊥) → get_or cells 2 0 ≡ get_or all i 0
-    byte_second h z = let o : i ≡ 1 = omega (arith, few) in sym (kept_at h ∙ rw o)
-
-    pub byte_next : count ≤ i → get_or bytes (i - count) 0 ≡ get_or all i 0
-    byte_next h =
-        let s : i ≡ length (unfinished_in cells) + (i - count) = omega arith in
-        sym (ap (λ (n : ℕ). get_or all n 0) s ∙ get_or-append-add (unfinished_in cells) bytes (i - count) 0)
-
-    pub byte_past : count ≤ i → length bytes ≤ i - count → 0 ≡ get_or all i 0
-    byte_past h m = sym (get_or-eq_default bytes 0 m) ∙ byte_next h
+  -- one of the bytes that are there
+  pub byte_kept : (i : ℕ) → i < count → get_or cells (i + 1) 0 ≡ get_or all i 0
+  unfolding unfinished_in
+  byte_kept i h =
+      let w = waiting_count cells in
+      sym (get_or-append (unfinished_in cells) bytes 0 i (rw (← e) h)
+      ∙ get_or-take (get_or cells 0 0) (get_or cells 1 0 ∷ (get_or cells 2 0 ∷ [])) i 0 (omega arith) ∙ two_cells cells i (omega (arith, few)))
 
   -- how many whole events
-  pub whole_is : length bytes / 3 + (count + length bytes % 3) / 3 ≡ length (whole_events all)
+  pub whole_is : (count + length bytes) / 3 ≡ length (whole_events all)
   whole_is = let w = whole_length all in let n = all_length in omega arith
 
   pub whole_most : 3 * length (whole_events all) ≤ 2 + length bytes
@@ -171,10 +155,10 @@ module _ (cells bytes : List ℕ) {count : ℕ} (e : count ≡ length (unfinishe
 
   -- what is left over
   pub left_kept : {n first second : ℕ} → n ≡ length (whole_events all) → first ≡ get_or all (3 * n) 0 → second ≡ get_or all (3 * n + 1) 0
-      → ((count + length bytes % 3) % 3 ∷ (first ∷ (second ∷ []))) ≡ unfinished_cells (left_over all)
+      → ((count + length bytes) % 3 ∷ (first ∷ (second ∷ []))) ≡ unfinished_cells (left_over all)
   unfolding unfinished_cells
   left_kept {n} k f s =
-      let l : length (left_over all) ≡ (count + length bytes % 3) % 3 = (let w = left_length all in let m = all_length in omega arith) in
+      let l : length (left_over all) ≡ (count + length bytes) % 3 = (let w = left_length all in let m = all_length in omega arith) in
       let a : get_or (left_over all) 0 0 ≡ get_or all (3 * n) 0 = rw (left_at all, ← k) (get_or-drop (3 * n) all 0 0 ∙ ap (λ (m : ℕ). get_or all m 0) (add-zero (3 * n))) in
       let b : get_or (left_over all) 1 0 ≡ get_or all (3 * n + 1) 0 = rw (left_at all, ← k) (get_or-drop (3 * n) all 1 0) in
       rw (l, a, b, f, s)

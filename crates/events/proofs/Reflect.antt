@@ -1,4 +1,5 @@
 -- Each test says what its sentence says.
+use Rattle.std.specs.Prelude.{None, Option, Some}
 use mathlib.Core.Path.{◌≡◌, refl, sym, ap, ◌∙◌}
 use mathlib.Core.Bool.{Bool, true, false, not}
 use mathlib.Core.Logic.{◌≢◌, ◌⊎◌, inl, inr, ◌↔◌}
@@ -8,11 +9,9 @@ use native.Mathlib.Omega.{arith}
 use lib.ListN.{length, get_or}
 use lib.Dec.{eqb}
 use borrow.Author.Tests.{eqb-true, eqb-false, eq-eqb, ne_eqb}
-use Rattle.laws.specs.declared.Found.{Found}
-use Rattle.laws.specs.declared.Found.TheVariants.{At, Nothing}
 use Rattle.laws.specs.Tests.{Is, split, never, clash, below?, and_l, and_r, and_i, not_t, not_i, cond_t, cond_f, fails}
 use Rattle.laws.specs.Lists.{In, has, has_in, in_has}
-use Rattle.laws.specs.Answers.{None, LowestSuch}
+use Rattle.laws.specs.Answers.{NoSuch, LowestSuch}
 use Rattle.laws.specs.Search.{lowest, lowest_at, lowest_none, at_lowest}
 use Rattle.plan.specs.Kinds.{legged, out, leg}
 use Rattle.plan.specs.Records.{Plan, home_of, route_of, track_of}
@@ -35,13 +34,13 @@ pub record Tells (n : ℕ) (f : ℕ → Bool) (Such : ℕ → Type 0) : Type 0 w
   pub inside : (x : ℕ) → Such x → x < n
 
 module _ {n : ℕ} {f : ℕ → Bool} {Such : ℕ → Type 0} (t : Tells n f Such) where
-  pub search_at : {x : ℕ} → lowest n f ≡ At x → LowestSuch Such x
+  pub search_at : {x : ℕ} → lowest n f ≡ Some x → LowestSuch Such x
   search_at {x} e = let l = lowest_at n f e in record { such = t.says x l.passes; no_lower = λ y h s. clash (t.hears y s) (l.first y h) }
 
-  pub search_none : lowest n f ≡ Nothing → None Such
+  pub search_none : lowest n f ≡ None → NoSuch Such
   search_none e x s = clash (t.hears x s) (lowest_none n f e x (t.inside x s))
 
-  pub at_search : {x : ℕ} → LowestSuch Such x → lowest n f ≡ At x
+  pub at_search : {x : ℕ} → LowestSuch Such x → lowest n f ≡ Some x
   at_search {x} l = at_lowest n f (record {
     below = t.inside x l.such;
     passes = t.hears x l.such;
@@ -87,9 +86,9 @@ module _ (p : Plan) (σ : State) where
   unfolding busy_train train_at
   busy_train_tells clear n h = go (lowest n (busy clear σ.trains)) refl
     where
-      go : (o : Found) → lowest n (busy clear σ.trains) ≡ o → Meets p σ clear (with_train σ.trains o)
-      go (At u) e = (search_at (busy_tells clear n h) e, refl)
-      go Nothing e = search_none (busy_tells clear n h) e
+      go : (o : Option ℕ) → lowest n (busy clear σ.trains) ≡ o → Meets p σ clear (with_train σ.trains o)
+      go (Some u) e = (search_at (busy_tells clear n h) e, refl)
+      go None e = search_none (busy_tells clear n h) e
 
   -- what would be turned is listed
   pub other_listed : (r q : ℕ) → OtherLie p σ r q → Listed p r q
@@ -150,11 +149,11 @@ module _ (p : Plan) (σ : State) where
       inside = λ u e. elim (below? u (length p.tracks)) [ inl h ↦ h | inr h ↦ absurd (t (sym e ∙ W.trains_end u h)) ];
     }
 
-    pub front_at : {u : ℕ} → FrontAt p σ train u → front_of p σ.trains train ≡ At u
+    pub front_at : {u : ℕ} → FrontAt p σ train u → front_of p σ.trains train ≡ Some u
     unfolding front_of
     front_at {u} e = at_search front_tells (record { such = e; no_lower = λ y h s. let z = W.once u y (λ n. t (sym e ∙ n)) (e ∙ sym s) in absurd (omega arith) })
 
-    pub at_front : {u : ℕ} → front_of p σ.trains train ≡ At u → FrontAt p σ train u
+    pub at_front : {u : ℕ} → front_of p σ.trains train ≡ Some u → FrontAt p σ train u
     unfolding front_of
     at_front e = (search_at front_tells e).such
 
@@ -162,9 +161,9 @@ module _ (p : Plan) (σ : State) where
     unfolding in_plan
     in_says e = go (front_of p σ.trains train) refl e
       where
-        go : (o : Found) → front_of p σ.trains train ≡ o → Is (is_found o) → InPlan p σ train
-        go (At u) q i = (u, at_front q)
-        go Nothing q i = clash {b = false} i refl
+        go : (o : Option ℕ) → front_of p σ.trains train ≡ o → Is (is_found o) → InPlan p σ train
+        go (Some u) q i = (u, at_front q)
+        go None q i = clash {b = false} i refl
 
     in_hears : InPlan p σ train → Is (in_plan p σ.trains train)
     unfolding in_plan
@@ -174,40 +173,40 @@ module _ (p : Plan) (σ : State) where
     in_tests = (in_says, in_hears)
 
   -- the red signal at a track's end
-  home_at : (u s : ℕ) → signal_at p u ≡ At s → StandsAt p u s
+  home_at : (u s : ℕ) → signal_at p u ≡ Some s → StandsAt p u s
   unfolding signal_at
   home_at u s e = let l = lowest_at (length p.signals) (λ s. eqb (home_of p s) u) e in (l.below, eqb-true _ _ l.passes)
 
-  home_none : (u : ℕ) → signal_at p u ≡ Nothing → (s : ℕ) → StandsAt p u s → ⊥
+  home_none : (u : ℕ) → signal_at p u ≡ None → (s : ℕ) → StandsAt p u s → ⊥
   unfolding signal_at
   home_none u e s w = clash (eq-eqb (home_of p s) u w.1) (lowest_none (length p.signals) (λ s. eqb (home_of p s) u) e s w.0)
 
   module _ (R : Readable p) (u : ℕ) where
-    at_home : (s : ℕ) → StandsAt p u s → signal_at p u ≡ At s
+    at_home : (s : ℕ) → StandsAt p u s → signal_at p u ≡ Some s
     at_home s w = go (signal_at p u) refl
       where
-        go : (o : Found) → signal_at p u ≡ o → o ≡ At s
-        go (At t) e = ap At (one_signal p R u t s (home_at u t e) w)
-        go Nothing e = absurd (home_none u e s w)
+        go : (o : Option ℕ) → signal_at p u ≡ o → o ≡ Some s
+        go (Some t) e = ap Some (one_signal p R u t s (home_at u t e) w)
+        go None e = absurd (home_none u e s w)
 
-    pub red_at_lem : {s : ℕ} → red_at p σ.signals u ≡ At s → RedAt p σ u s
+    pub red_at_lem : {s : ℕ} → red_at p σ.signals u ≡ Some s → RedAt p σ u s
     unfolding red_at
     red_at_lem {s} e = go (signal_at p u) refl e
       where
-        go : (o : Found) → signal_at p u ≡ o → if_red σ.signals o ≡ At s → RedAt p σ u s
-        go (At t) q z = elim (split (is_red σ.signals t)) [
-          | inl y ↦ (let w : At t ≡ At s = sym (cond_t (At t) Nothing y) ∙ z in
+        go : (o : Option ℕ) → signal_at p u ≡ o → if_red σ.signals o ≡ Some s → RedAt p σ u s
+        go (Some t) q z = elim (split (is_red σ.signals t)) [
+          | inl y ↦ (let w : Some t ≡ Some s = sym (cond_t (Some t) None y) ∙ z in
               let x : t ≡ s = cc in
               rw (← x) (home_at u t q, (red_tests σ t).0 y))
-          | inr n ↦ never (cc (cond_f (At t) Nothing n))
+          | inr n ↦ never (cc (cond_f (Some t) None n))
         ]
-        go Nothing q z = never (cc)
+        go None q z = never (cc)
 
-    pub at_red : {s : ℕ} → RedAt p σ u s → red_at p σ.signals u ≡ At s
+    pub at_red : {s : ℕ} → RedAt p σ u s → red_at p σ.signals u ≡ Some s
     unfolding red_at
-    at_red {s} w = rw (at_home s w.0) (cond_t (At s) Nothing ((red_tests σ s).1 w.1))
+    at_red {s} w = rw (at_home s w.0) (cond_t (Some s) None ((red_tests σ s).1 w.1))
 
-    pub red_none : red_at p σ.signals u ≡ Nothing → None (RedAt p σ u)
+    pub red_none : red_at p σ.signals u ≡ None → NoSuch (RedAt p σ u)
     red_none e s w = never (cc (at_red w))
 
   -- the way out, and the wrong leg

@@ -5,7 +5,7 @@ use mathlib.Core.Logic.{◌≢◌, ◌⊎◌}
 use Prim.Native.Nat.{ℕ, ◌<◌}
 use lib.ListN.{length}
 use lib.Dec.{eqb}
-use Rattle.laws.specs.Answers.{None}
+use Rattle.laws.specs.Answers.{NoSuch}
 use Rattle.plan.specs.Kinds.{Exit}
 use Rattle.plan.specs.Records.{Plan, route_of, entry_of, track_of}
 use Rattle.state.specs.declared.State.{State}
@@ -23,8 +23,8 @@ module _ (p : Plan) (σ : State) where
   pub record Granting (r : ℕ) : Type 0 where
     pub formed : WellFormed p σ
     pub known : r < length p.routes
-    pub clear : None (Busy p σ (route_of p r).clear)
-    pub idle : None (HeldOther p σ r)
+    pub clear : NoSuch (Busy p σ (route_of p r).clear)
+    pub idle : NoSuch (HeldOther p σ r)
 
   pub record Cancelling (r : ℕ) : Type 0 where
     pub formed : WellFormed p σ
@@ -39,14 +39,14 @@ module _ (p : Plan) (σ : State) where
     pub numbered : train ≢ no_train
     pub track : (entry_of p e).track ≡ u
     pub new : InPlan p σ train → ⊥
-    pub clear : None (Busy p σ (entry_of p e).clear)
+    pub clear : NoSuch (Busy p σ (entry_of p e).clear)
 
   -- a train on the track u that no red signal stops
   pub record Front (train u : ℕ) : Type 0 where
     pub formed : WellFormed p σ
     pub numbered : train ≢ no_train
     pub at : FrontAt p σ train u
-    pub not_red : None (RedAt p σ u)
+    pub not_red : NoSuch (RedAt p σ u)
 
   -- and goes on to v
   pub record Step (train u v : ℕ) : Type 0 where
@@ -65,7 +65,7 @@ module _ (p : Plan) (σ : State) where
   abbrev pub Harmed : Harm → Type 0
   Harmed (Collision v) = ((train : ℕ) × Entry train v × HasTrain σ v) ⊎ ((train u : ℕ) × Step train u v × HasTrain σ v)
   Harmed (RunThrough v) = (train u : ℕ) × Step train u v × RunsThrough p σ u v
-  Harmed (Derailment q) = (r : ℕ) × (r < length p.routes) × None (Busy p σ (route_of p r).clear) × Derails p σ r q
+  Harmed (Derailment q) = (r : ℕ) × (r < length p.routes) × NoSuch (Busy p σ (route_of p r).clear) × Derails p σ r q
 
   -- 10 is refused to an ill-formed state alone; of other refusals nothing is asked
   abbrev pub Ill : Bool → Type 0

@@ -1,7 +1,5 @@
 -- The state after an answer: a deed goes array by array, each a function of that array, the plan and the deed alone; nothing else changes anything.
-use Rattle.std.specs.Prelude.{Bool, cond, List, ℕ, zero, suc, ◌<◌, length, get_or, eqb}
-use Rattle.laws.specs.declared.Found.{Found}
-use Rattle.laws.specs.declared.Found.TheVariants.{At, Nothing}
+use Rattle.std.specs.Prelude.{Bool, cond, List, ℕ, zero, suc, ◌<◌, length, get_or, eqb, None, Option, Some}
 use Rattle.laws.specs.Tables.{tab}
 use Rattle.laws.specs.Sets.{excluding}
 use Rattle.plan.specs.Limits.{most_tracks, most_signals}
@@ -68,9 +66,9 @@ route_holds p holds (Moved train u v) = holds
 route_holds p holds (Left train u) = holds
 
 -- by an arrival, if there is one
-unfoldable pub given_back : Plan → Found → List ℕ → List ℕ
-given_back p (At v) holds = tab most_tracks (arrived p v holds)
-given_back p Nothing holds = holds
+unfoldable pub given_back : Plan → Option ℕ → List ℕ → List ℕ
+given_back p (Some v) holds = tab most_tracks (arrived p v holds)
+given_back p None holds = holds
 
 unfoldable pub new_holds : Plan → List ℕ → Deed → List ℕ
 new_holds p holds deed = given_back p (deed_arrives deed) (route_holds p holds deed)
@@ -92,9 +90,9 @@ route_signals p signals (Moved train u v) = signals
 route_signals p signals (Left train u) = signals
 
 -- by leaving a track, if one is left
-unfoldable pub red_behind : Plan → Found → List ℕ → List ℕ
-red_behind p (At u) signals = tab most_signals (reddened p u signals)
-red_behind p Nothing signals = signals
+unfoldable pub red_behind : Plan → Option ℕ → List ℕ → List ℕ
+red_behind p (Some u) signals = tab most_signals (reddened p u signals)
+red_behind p None signals = signals
 
 unfoldable pub new_signals : Plan → List ℕ → Deed → List ℕ
 new_signals p signals deed = red_behind p (deed_leaves deed) (route_signals p signals deed)

@@ -1,8 +1,6 @@
 -- The document's number and values for each answer, and where it brings a train or takes one away. `Answer`, `Refusal`, `Harm` and `Deed` are the
 -- code's own enums (src/lib.rt).
-use Rattle.std.specs.Prelude.{List, [], ◌∷◌, ℕ}
-use Rattle.laws.specs.declared.Found.{Found}
-use Rattle.laws.specs.declared.Found.TheVariants.{At, Nothing}
+use Rattle.std.specs.Prelude.{List, [], ◌∷◌, ℕ, None, Option, Some}
 use Rattle.events.specs.declared.Refusal.{Refusal}
 use Rattle.events.specs.declared.Refusal.TheVariants.{IllFormed, BadEvent, NotRed, Occupied, Held, NotGreen, HomeOccupied, TrainIn, TrainOut, Red}
 use Rattle.events.specs.declared.Harm.{Harm}
@@ -80,34 +78,34 @@ if_done none of (Done deed) = of deed
 -- Where a deed brings a train, and where it takes one away.
 
 -- a train moves onto the track; one that enters moves onto none
-unfoldable pub deed_arrives : Deed → Found
-deed_arrives (Granted route) = Nothing
-deed_arrives (Cancelled route) = Nothing
-deed_arrives (Entered train track) = Nothing
-deed_arrives (Moved train from to) = At to
-deed_arrives (Left train from) = Nothing
+unfoldable pub deed_arrives : Deed → Option ℕ
+deed_arrives (Granted route) = None
+deed_arrives (Cancelled route) = None
+deed_arrives (Entered train track) = None
+deed_arrives (Moved train from to) = Some to
+deed_arrives (Left train from) = None
 
 -- a train comes to stand on the track: it enters there, or moves onto it
-unfoldable pub deed_comes : Deed → Found
-deed_comes (Granted route) = Nothing
-deed_comes (Cancelled route) = Nothing
-deed_comes (Entered train track) = At track
-deed_comes (Moved train from to) = At to
-deed_comes (Left train from) = Nothing
+unfoldable pub deed_comes : Deed → Option ℕ
+deed_comes (Granted route) = None
+deed_comes (Cancelled route) = None
+deed_comes (Entered train track) = Some track
+deed_comes (Moved train from to) = Some to
+deed_comes (Left train from) = None
 
 -- a train stands on the track no more
-unfoldable pub deed_leaves : Deed → Found
-deed_leaves (Granted route) = Nothing
-deed_leaves (Cancelled route) = Nothing
-deed_leaves (Entered train track) = Nothing
-deed_leaves (Moved train from to) = At from
-deed_leaves (Left train from) = At from
+unfoldable pub deed_leaves : Deed → Option ℕ
+deed_leaves (Granted route) = None
+deed_leaves (Cancelled route) = None
+deed_leaves (Entered train track) = None
+deed_leaves (Moved train from to) = Some from
+deed_leaves (Left train from) = Some from
 
-abbrev pub arrives_on : Answer → Found
-arrives_on answer = if_done Nothing deed_arrives answer
+abbrev pub arrives_on : Answer → Option ℕ
+arrives_on answer = if_done None deed_arrives answer
 
-abbrev pub comes_on : Answer → Found
-comes_on answer = if_done Nothing deed_comes answer
+abbrev pub comes_on : Answer → Option ℕ
+comes_on answer = if_done None deed_comes answer
 
-abbrev pub leaves_from : Answer → Found
-leaves_from answer = if_done Nothing deed_leaves answer
+abbrev pub leaves_from : Answer → Option ℕ
+leaves_from answer = if_done None deed_leaves answer

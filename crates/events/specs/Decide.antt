@@ -1,7 +1,5 @@
 -- The answer to an event: the tests of document 01, "State and events", in its order. The first that applies is the answer.
-use Rattle.std.specs.Prelude.{Bool, true, false, not, cond, ◌&&◌, List, ℕ, length, get_or, eqb, ltb}
-use Rattle.laws.specs.declared.Found.{Found}
-use Rattle.laws.specs.declared.Found.TheVariants.{At, Nothing}
+use Rattle.std.specs.Prelude.{Bool, true, false, not, cond, ◌&&◌, List, ℕ, length, get_or, eqb, ltb, None, Option, Some}
 use Rattle.laws.specs.Lists.{has}
 use Rattle.laws.specs.Search.{lowest, unless}
 use Rattle.plan.specs.Kinds.{exit, legged, out, leg}
@@ -13,8 +11,6 @@ use Rattle.state.specs.State.{no_train, normal_lie, reverse_lie, red, green_for,
 use Rattle.events.specs.declared.Event.{Event}
 use Rattle.events.specs.declared.Event.TheVariants.{Request, Cancel, Enter, Move, Unknown}
 use Rattle.events.specs.declared.Refusal.TheVariants.{IllFormed, BadEvent, NotRed, Occupied, Held, NotGreen, HomeOccupied, TrainIn, TrainOut, Red}
-use Rattle.events.specs.declared.Met.{Met}
-use Rattle.events.specs.declared.Met.TheVariants.{Train, Nobody}
 use Rattle.events.specs.declared.Harm.TheVariants.{Collision, RunThrough, Derailment}
 use Rattle.events.specs.declared.Deed.TheVariants.{Granted, Cancelled, Entered, Moved, Left}
 use Rattle.events.specs.declared.Answer.{Answer}
@@ -65,33 +61,33 @@ stands trains train u = eqb (get_or trains u no_train) train
 -- The tests of a list: the lowest track or point is named, and a track with its train.
 
 -- a track that was found, with the train that stands on it, or nobody
-abbrev pub with_train : List ℕ → Found → Met
-with_train trains (At u) = Train u (get_or trains u no_train)
-with_train trains Nothing = Nobody
+abbrev pub with_train : List ℕ → Option ℕ → Option (ℕ × ℕ)
+with_train trains (Some u) = Some (u, get_or trains u no_train)
+with_train trains None = None
 
 -- the lowest track of the clear list that has a train, and the train that stands there
-unfoldable pub busy_train : ℕ → List ℕ → List ℕ → Met
+unfoldable pub busy_train : ℕ → List ℕ → List ℕ → Option (ℕ × ℕ)
 busy_train tracks clear trains = with_train trains (lowest tracks (busy clear trains))
 
 -- the answer for a train in the way, or else the rest of the chain
-unfoldable pub unless_train : Met → (ℕ → ℕ → Answer) → Answer → Answer
-unless_train (Train u train) f rest = f u train
-unless_train Nobody f rest = rest
+unfoldable pub unless_train : Option (ℕ × ℕ) → (ℕ → ℕ → Answer) → Answer → Answer
+unless_train (Some (u, train)) f rest = f u train
+unless_train None f rest = rest
 
-unfoldable pub held_point : ℕ → List ℕ → List ℕ → List ℕ → List ℕ → Found
+unfoldable pub held_point : ℕ → List ℕ → List ℕ → List ℕ → List ℕ → Option ℕ
 held_point tracks normal reverse lies holds = lowest tracks (held_other normal reverse lies holds)
 
-unfoldable pub derailed_point : ℕ → List ℕ → List ℕ → List ℕ → List ℕ → Found
+unfoldable pub derailed_point : ℕ → List ℕ → List ℕ → List ℕ → List ℕ → Option ℕ
 derailed_point tracks normal reverse trains lies = lowest tracks (derails normal reverse trains lies)
 
 -- Where a train is: the track that it stands on, and whether it is in the plan at all.
 
-unfoldable pub front_of : Plan → List ℕ → ℕ → Found
+unfoldable pub front_of : Plan → List ℕ → ℕ → Option ℕ
 front_of p trains train = lowest (length p.tracks) (stands trains train)
 
-abbrev pub is_found : Found → Bool
-is_found (At x) = true
-is_found Nothing = false
+abbrev pub is_found : Option ℕ → Bool
+is_found (Some x) = true
+is_found None = false
 
 unfoldable pub in_plan : Plan → List ℕ → ℕ → Bool
 in_plan p trains train = is_found (front_of p trains train)
@@ -99,11 +95,11 @@ in_plan p trains train = is_found (front_of p trains train)
 -- Where a train goes.
 
 -- the signal at the track's end, if it is red
-abbrev pub if_red : List ℕ → Found → Found
-if_red signals (At s) = cond (is_red signals s) (At s) Nothing
-if_red signals Nothing = Nothing
+abbrev pub if_red : List ℕ → Option ℕ → Option ℕ
+if_red signals (Some s) = cond (is_red signals s) (Some s) None
+if_red signals None = None
 
-unfoldable pub red_at : Plan → List ℕ → ℕ → Found
+unfoldable pub red_at : Plan → List ℕ → ℕ → Option ℕ
 red_at p signals u = if_red signals (signal_at p u)
 
 -- the next track, by the lie if on a facing point

@@ -1,7 +1,7 @@
 -- What the answers and the state after them mean, in the words of document 01, "State and events".
-use Rattle.std.specs.Prelude.{◌≡◌, true, false, ◌≢◌, ◌⊎◌, List, [], ℕ, ◌<◌, length}
+use Rattle.std.specs.Prelude.{◌≡◌, true, false, ◌≢◌, ◌⊎◌, List, [], ℕ, ◌<◌, length, None, Option, Some}
 use Rattle.laws.specs.Lists.{In}
-use Rattle.laws.specs.Answers.{None, LowestSuch, Table, last, asks, needs, names, the, Gives}
+use Rattle.laws.specs.Answers.{NoSuch, LowestSuch, Table, last, asks, needs, names, the, Gives}
 use Rattle.plan.specs.Kinds.{out, leg, Exit, Legged}
 use Rattle.plan.specs.Records.{Plan, home_of, route_of, entry_of, track_of}
 use Rattle.plan.specs.Layout.{StandsAt}
@@ -11,8 +11,6 @@ use Rattle.state.specs.State.{no_train, normal_lie, reverse_lie, red, green_for,
 use Rattle.events.specs.declared.Event.{Event}
 use Rattle.events.specs.declared.Event.TheVariants.{Request, Cancel, Enter, Move, Unknown}
 use Rattle.events.specs.declared.Refusal.TheVariants.{IllFormed, BadEvent, NotRed, Occupied, Held, NotGreen, HomeOccupied, TrainIn, TrainOut, Red}
-use Rattle.events.specs.declared.Met.{Met}
-use Rattle.events.specs.declared.Met.TheVariants.{Train, Nobody}
 use Rattle.events.specs.declared.Harm.TheVariants.{Collision, RunThrough, Derailment}
 use Rattle.events.specs.declared.Deed.{Deed}
 use Rattle.events.specs.declared.Deed.TheVariants.{Granted, Cancelled, Entered, Moved, Left}
@@ -34,9 +32,9 @@ module _ (p : Plan) (σ : State) where
   Busy clear u = In u clear × HasTrain σ u
 
   -- what is met on a clear list: the lowest of its tracks that has a train, and the train that stands there; or nobody, where none has one
-  abbrev pub Meets : List ℕ → Met → Type 0
-  Meets clear (Train u train) = LowestSuch (Busy clear) u × (train_at σ u ≡ train)
-  Meets clear Nobody = None (Busy clear)
+  abbrev pub Meets : List ℕ → Option (ℕ × ℕ) → Type 0
+  Meets clear (Some (u, train)) = LowestSuch (Busy clear) u × (train_at σ u ≡ train)
+  Meets clear None = NoSuch (Busy clear)
 
   -- the point lies otherwise than the grant would leave it: reverse wins, and one that is not listed never does
   abbrev pub OtherLie : ℕ → ℕ → Type 0

@@ -3,10 +3,10 @@
 
 pub mod unfinished;
 
-ghost use Rattle.std.specs.Prelude.{◌≡◌, length, drop};
+ghost use Rattle.std.specs.Prelude.{◌≡◌, length, get_or, drop};
 ghost use Rattle.events.specs.Events.{event_of, first_event, events_of};
-
-use lists::wide;
+ghost use Rattle.events.specs.Answers.{refusal_number, harm_number, deed_number};
+ghost use Rattle.events.specs.declared.Answer.TheVariants.{Refused, Accident};
 
 // The four events, and what is none: an unknown kind, an unused byte that is not 0, or an incomplete last event.
 #[derive(Clone, Copy)]
@@ -31,13 +31,6 @@ pub enum Refusal {
     TrainIn,
     TrainOut,
     Red(usize),
-}
-
-// What the test of a clear list meets: a track and the train on it, or nobody.
-#[derive(Clone, Copy)]
-pub enum Met {
-    Train(usize, u8),
-    Nobody,
 }
 
 // What goes wrong on a bad plan.
@@ -66,24 +59,90 @@ pub enum Answer {
     Done(Deed),
 }
 
+// A refusal and a harm are answers, and end a chain of tests by `?`.
+
+impl From<Refusal> for Answer {
+    ghost from_gives = { λ refusal answer. answer ≡ Refused refusal };
+
+    fn from(refusal: Refusal) -> Answer {
+        Answer::Refused(refusal)
+    }
+}
+
+impl From<Harm> for Answer {
+    ghost from_gives = { λ harm answer. answer ≡ Accident harm };
+
+    fn from(harm: Harm) -> Answer {
+        Answer::Accident(harm)
+    }
+}
+
+// The document's numbers of answers. What its table doesn't number has a number from 100 on.
+
+impl Refusal {
+    #[tactic(auto, unfolding(crate::specs::Answers::refusal_number))]
+    pub fn number(self) -> usize
+        ensures { result ≡ refusal_number self }
+    {
+        match self {
+            Self::IllFormed => 10,
+            Self::BadEvent => 11,
+            Self::NotRed => 12,
+            Self::Occupied(..) => 13,
+            Self::Held(_) => 14,
+            Self::NotGreen => 15,
+            Self::HomeOccupied(_) => 16,
+            Self::TrainIn => 17,
+            Self::TrainOut => 18,
+            Self::Red(_) => 19,
+        }
+    }
+}
+
+impl Harm {
+    #[tactic(auto, unfolding(crate::specs::Answers::harm_number))]
+    pub fn number(self) -> usize
+        ensures { result ≡ harm_number self }
+    {
+        match self {
+            Self::Collision(_) => 40,
+            Self::RunThrough(_) => 41,
+            Self::Derailment(_) => 42,
+        }
+    }
+}
+
+impl Deed {
+    #[tactic(auto, unfolding(crate::specs::Answers::deed_number))]
+    pub fn number(self) -> usize
+        ensures { result ≡ deed_number self }
+    {
+        match self {
+            Self::Granted(_) => 100,
+            Self::Cancelled(_) => 101,
+            Self::Entered { .. } => 102,
+            Self::Moved { .. } => 103,
+            Self::Left { .. } => 104,
+        }
+    }
+}
+
 // The event of three bytes.
-pub fn event_of(kind: u8, first: u8, second: u8) -> Event
-    ensures { result ≡ event_of kind first second }
-{
-    if kind == 3 {
-        return Event::Enter {
-            entry: wide(first),
-            train: second,
-        };
-    }
-    if second != 0 {
-        return Event::Unknown;
-    }
-    match kind {
-        1 => Event::Request(wide(first)),
-        2 => Event::Cancel(wide(first)),
-        4 => Event::Move(first),
-        _ => Event::Unknown,
+impl From<[u8; 3]> for Event {
+    #[tactic(auto, unfolding(crate::specs::Events::event_of))]
+    fn from(bytes: [u8; 3]) -> Self
+        ensures { result ≡ event_of (get_or bytes 0 0) (get_or bytes 1 0) (get_or bytes 2 0) }
+    {
+        match bytes {
+            [1, route, 0] => Self::Request(usize::from(route)),
+            [2, route, 0] => Self::Cancel(usize::from(route)),
+            [3, entry, train] => Self::Enter {
+                entry: usize::from(entry),
+                train,
+            },
+            [4, train, 0] => Self::Move(train),
+            _ => Self::Unknown,
+        }
     }
 }
 
@@ -91,23 +150,16 @@ pub fn event_of(kind: u8, first: u8, second: u8) -> Event
 pub fn event_at(bytes: &[u8], at: usize) -> Event
     ensures { result ≡ first_event (drop at bytes.now) }
 {
-    let count = bytes.len();
-    if count < 3 {
-        return Event::Unknown;
+    match bytes.get(at..).unwrap_or(&[]) {
+        &[kind, first, second, ..] => Event::from([kind, first, second]),
+        _ => Event::Unknown,
     }
-    if count - 3 < at {
-        return Event::Unknown;
-    }
-    event_of(bytes[at], bytes[at + 1], bytes[at + 2])
 }
 
 // How many events bytes have, an incomplete last one too.
+#[tactic(auto, using(crate::proofs::Pieces::events_length))]
 pub fn event_count(bytes: &[u8]) -> usize
     ensures { result ≡ length (events_of bytes.now) }
 {
-    let whole = bytes.len() / 3;
-    if bytes.len() % 3 == 0 {
-        return whole;
-    }
-    whole + 1
+    bytes.len().div_ceil(3)
 }

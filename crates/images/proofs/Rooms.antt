@@ -1,50 +1,52 @@
 -- A part of an image in the steps that the code takes: what a reader saw, and the zeros after it, are what the part's own reader answers, and where it
 -- is passed the next part stands where it must. Assumes nothing.
+use Rattle.reading.specs.declared.Form.{Form}
+use Rattle.std.specs.Prelude.{Err, Ok, Result}
 use mathlib.Core.Path.{◌≡◌, refl, ◌∙◌}
 use mathlib.Core.List.{List}
-use Prim.Native.Nat.{ℕ, ◌+◌, ◌*◌, ◌-◌, ◌≤◌, ◌<◌}
+use Prim.Native.Nat.{ℕ, ◌+◌, ◌*◌, ◌-◌, ◌≤◌}
 use native.Mathlib.Omega.{arith}
 use native.Mathlib.Nat.{mul-le-mul_left}
-use lib.ListN.{length, get_or, drop}
+use lib.ListN.{length, drop}
 use Rattle.laws.specs.Lists.{all_map}
 use Rattle.plan.specs.declared.Track.{Track}
 use Rattle.plan.specs.Limits.{most_routes, most_entries, route_size}
-use Rattle.plan.specs.Records.{Route, Entry}
+use Rattle.plan.specs.Records.{Route}
 use Rattle.plan.specs.File.{counted_file, Within, ReadableRoute}
 use Rattle.plan.specs.Image.{route_image, route_in}
 use Rattle.plan.proofs.Shown.{length_padded, length_joined, route_shows, route_fits}
-use Rattle.reading.specs.declared.Seen.{Seen}
-use Rattle.reading.specs.declared.Seen.TheVariants.{Next, Refused}
-use Rattle.reading.specs.Reading.{Reader, got, below, free, after_entry, scanned}
+use Rattle.reading.specs.Reading.{Reader, below, free, after_entry, scanned}
 use Rattle.reading.proofs.Sound.{Sound, sound_got, sound_next}
 use Rattle.reading.proofs.Scanned.{Steady, passed, then_stop, then_step, then_last, then_steady, many_steady, number_steady, done_steady}
-use Rattle.reading.proofs.Scanned.{path_steady, rising_steady, points_steady, releases_steady, counted_steady, listed_above}
-use Rattle.images.specs.Images.{zeros, roomy, list_room, route_room, route_rooms, entry_room, entry_rooms, zeros_to}
+use Rattle.reading.proofs.Scanned.{path_steady, rising_steady, points_steady, releases_steady, counted_steady}
+use Rattle.images.specs.Images.{zeros, roomy, list_room, route_room, route_rooms, entry_room, entry_rooms}
 use Rattle.images.proofs.Roomy.{roomy_sound}
 
 pub roomy_steady : {A : Type 0} {reader : Reader A} (size : ℕ) (file : A → List ℕ) → Steady reader → Steady (roomy size file reader)
 unfolding roomy zeros
 roomy_steady size file s = then_steady s (λ a. then_steady (many_steady free (number_steady (below 1)) _ 0) (λ none. done_steady a))
 
-module _ {A : Type 0} {file : A → List ℕ} {Ok : A → Type 0} {m : ℕ} {reader : Reader A} (size : ℕ) (sound : Sound file Ok m reader) (steady : Steady reader)
-    (image : List ℕ) (from : ℕ) {to : ℕ} (place : to ≡ from + size) {seen r : Seen} (told : seen ≡ scanned reader image from) (after : r ≡ zeros_to seen image to) where
-  pub room_told : r ≡ scanned (roomy size file reader) image from
-  unfolding roomy zeros_to
-  room_told = after ∙ go seen told
-    where
-      go : (s : Seen) → s ≡ scanned reader image from → zeros_to s image to ≡ scanned (roomy size file reader) image from
-      go (Refused f) t = then_stop reader _ image from t refl
-      go (Next p) t = then_step reader _ image from t steady refl λ a h.
-          let n = sound_next sound from (drop from image) h in
-          let z : to - p ≡ size - length (file a) = omega arith in
-          rw z (then_last (zeros (size - length (file a))) (λ none. a) image p refl)
+module _ {A : Type 0} {file : A → List ℕ} {Good : A → Type 0} {m : ℕ} {reader : Reader A} (size : ℕ) (sound : Sound file Good m reader) (steady : Steady reader)
+    (image : List ℕ) (from : ℕ) {seen : Result ℕ Form} (told : seen ≡ scanned reader image from) where
+  -- refused, it is so with its zeros
+  pub room_stop : {f : Form} → seen ≡ Err f → seen ≡ scanned (roomy size file reader) image from
+  unfolding roomy
+  room_stop e = then_stop reader _ image from told e
 
-  pub room_next : {q : ℕ} → ((a : A) → Ok a → length (file a) ≤ size) → r ≡ Next q → q ≡ to
-  room_next {q} fits e =
-      let (a, w) = passed (roomy size file reader) image from room_told (roomy_steady size file steady) e in
-      let whole = roomy_sound size sound in
-      let ok = (sound_got whole from (drop from image) w).0 in
-      omega (arith, place, sound_next whole from (drop from image) w, length_padded size (file a) (fits a ok))
+  module _ {to p : ℕ} (place : to ≡ from + size) (end : seen ≡ Ok p) {r : Result ℕ Form} (after : r ≡ scanned (zeros (to - p)) image p) where
+    pub room_told : r ≡ scanned (roomy size file reader) image from
+    unfolding roomy
+    room_told = then_step reader _ image from told steady end λ a h.
+        let n = sound_next sound from (drop from image) h in
+        let z : to - p ≡ size - length (file a) = omega arith in
+        after ∙ rw z (then_last (zeros (size - length (file a))) (λ none. a) image p refl)
+
+    pub room_next : {q : ℕ} → ((a : A) → Good a → length (file a) ≤ size) → r ≡ Ok q → q ≡ to
+    room_next {q} fits e =
+        let (a, w) = passed (roomy size file reader) image from room_told (roomy_steady size file steady) e in
+        let whole = roomy_sound size sound in
+        let ok = (sound_got whole from (drop from image) w).0 in
+        omega (arith, place, sound_next whole from (drop from image) w, length_padded size (file a) (fits a ok))
 
 -- The records of the routes fill no more than their room.
 pub routes_fit : (tracks : List Track) (signals : ℕ) (l : List Route) → Within 0 most_routes (ReadableRoute tracks signals) l → length (counted_file route_image l) ≤ 1 + route_size * most_routes
@@ -54,7 +56,7 @@ routes_fit tracks signals l ok =
     let most : route_size * length l ≤ route_size * most_routes = mul-le-mul_left route_size ok.few in
     omega (arith, length_joined route_in route_size route_image l shows)
 
--- The records, and all of them, are steady; an entry that was passed has its track in its first byte, and the next one is above it.
+-- The records, and all of them, are steady.
 
 pub route_room_steady : (tracks : List Track) (signals : ℕ) → Steady (route_room tracks signals)
 unfolding route_room list_room
@@ -74,13 +76,3 @@ route_rooms_steady tracks signals = counted_steady 0 most_routes free (λ least.
 pub entry_rooms_steady : (tracks : ℕ) → Steady (entry_rooms tracks)
 unfolding entry_rooms
 entry_rooms_steady tracks = counted_steady 0 most_entries after_entry (entry_room_steady tracks)
-
-pub entry_room_above : (tracks least : ℕ) (image : List ℕ) (at : ℕ) {a : Entry} {x p : ℕ} {rest : List ℕ}
-    → x ≡ get_or image at 0 → entry_room tracks least at (drop at image) ≡ got a p rest → (x + 1 ≡ after_entry a) × (at < length image)
-unfolding entry_room
-entry_room_above tracks least image at z e = listed_above tracks least _ image at z e
-
-pub entry_room_within : (tracks least : ℕ) (image : List ℕ) (at : ℕ) {r : Seen} {p : ℕ} → r ≡ scanned (entry_room tracks least) image at → r ≡ Next p → at < length image
-entry_room_within tracks least image at told e =
-    let w = passed (entry_room tracks least) image at told (entry_room_steady tracks least) e in
-    (entry_room_above tracks least image at refl w.1).1

@@ -1,14 +1,13 @@
 -- Reading an image: as a file is read, but that every list stands at its full length, with zeros past its count. What is read is what an image must
 -- hold so that some file reads as it; proofs/Standing.antt has that as a law.
-use Rattle.std.specs.Prelude.{ℕ, ◌+◌, ◌*◌, ◌-◌, Bool, true, false, cond, List, ltb, length, take, drop}
+use Rattle.reading.specs.declared.Form.{Form}
+use Rattle.std.specs.Prelude.{ℕ, ◌+◌, ◌*◌, ◌-◌, Bool, true, false, cond, List, ltb, length, take, drop, Err, Ok, Result}
 use Rattle.laws.specs.Lists.{empty_from}
 use Rattle.plan.specs.declared.Track.{Track}
 use Rattle.plan.specs.Limits.{most_tracks, most_signals, most_routes, most_entries, most_path, most_clear, most_points, most_releases, track_size, release_size, route_size, entry_size, tracks_at}
 use Rattle.plan.specs.Records.{Route, Entry, Plan}
 use Rattle.plan.specs.File.{track_file, release_file, counted_file, list_file}
 use Rattle.plan.specs.Image.{route_image, entry_image}
-use Rattle.reading.specs.declared.Seen.{Seen}
-use Rattle.reading.specs.declared.Seen.TheVariants.{Next, Refused}
 use Rattle.reading.specs.Reading.{Reader, and_then, done, number, many, counted, below, free, path_list, rising_list, point_list, track_section, signal_section, release_list, after_entry, scanned}
 
 -- so many zeros
@@ -57,9 +56,9 @@ rooms =
 
 -- Whether an image is one that some file reads as.
 
-abbrev pub passes : Seen → Bool
-passes (Next at) = true
-passes (Refused f) = false
+abbrev pub passes : Result ℕ Form → Bool
+passes (Ok at) = true
+passes (Err f) = false
 
 unfoldable pub standing : List ℕ → Bool
 standing image = passes (scanned rooms image tracks_at)
@@ -67,8 +66,3 @@ standing image = passes (scanned rooms image tracks_at)
 -- Whether the bytes from an offset up to another are there, and are zeros.
 unfoldable pub zeros_in : List ℕ → ℕ → ℕ → Bool
 zeros_in image from to = cond (ltb to from) false (cond (ltb (length image) to) false (empty_from 0 (take (to - from) (drop from image))))
-
--- What the code has seen, and the zeros that are to follow it, up to an offset.
-unfoldable pub zeros_to : Seen → List ℕ → ℕ → Seen
-zeros_to (Refused f) image to = Refused f
-zeros_to (Next from) image to = scanned (zeros (to - from)) image from

@@ -3,8 +3,8 @@ use Rattle.std.specs.Prelude.{◌≡◌, ◌⊎◌, ℕ, ◌<◌}
 
 -- None is so; or one is, and no lower one.
 
-abbrev pub None : (ℕ → Type 0) → Type 0
-None Such = (x : ℕ) → Such x → ⊥
+abbrev pub NoSuch : (ℕ → Type 0) → Type 0
+NoSuch Such = (x : ℕ) → Such x → ⊥
 
 pub record LowestSuch (Such : ℕ → Type 0) (x : ℕ) : Type 0 where
   pub such : Such x
@@ -27,5 +27,5 @@ unfoldable pub Gives : {A : Type 0} → Table A → A → Type 0
 Gives (last x) a = a ≡ x
 Gives (asks So x rest) a = (So × (a ≡ x)) ⊎ ((So → ⊥) × Gives rest a)
 Gives (needs So x rest) a = ((So → ⊥) × (a ≡ x)) ⊎ (So × Gives rest a)
-Gives (names Such x rest) a = ((n : ℕ) × LowestSuch Such n × (a ≡ x n)) ⊎ (None Such × Gives rest a)
+Gives (names Such x rest) a = ((n : ℕ) × LowestSuch Such n × (a ≡ x n)) ⊎ (NoSuch Such × Gives rest a)
 Gives (the Such rest) a = (n : ℕ) × Such n × Gives (rest n) a

@@ -9,3 +9,4 @@ pub mod Walks
 pub mod Tables
 pub mod Sets
 pub mod Written
+pub mod Every

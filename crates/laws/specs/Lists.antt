@@ -1,5 +1,6 @@
 -- What holds of the elements of a list: as a sentence and as a test, with one law for each that turns the test into the sentence.
-use Rattle.std.specs.Prelude.{◌≡◌, Bool, true, false, not, ◌&&◌, ◌||◌, length, get_or, drop, eqb}
+use Rattle.std.specs.Prelude.{◌≡◌, Bool, true, false, not, ◌&&◌, length, get_or, drop, eqb}
+use Rattle.std.specs.List.{list_all, list_any}
 use Rattle.std.proofs.Math.Path.{refl}
 use Rattle.std.proofs.Common.{◌∙◌, not-suc-le-zero, add-one, drop_of_length-le, drop-cons, eqb-true, eq-eqb, ne_eqb}
 use Rattle.std.proofs.Math.Logic.{inl, inr}
@@ -36,15 +37,12 @@ unfoldable pub joined {ℓ κ} : {A : Type ℓ} {B : Type κ} → (A → List B)
 joined f [] = []
 joined f (a ∷ l) = f a ++ joined f l
 
--- every element passes
-unfoldable pub all_of {ℓ} : {A : Type ℓ} → (A → Bool) → List A → Bool
-all_of f [] = true
-all_of f (a ∷ l) = f a && all_of f l
+-- Every element passes; some element passes: std's words, so that a chain in code is found to say them.
+abbrev pub all_of : {A : Type 0} → (A → Bool) → List A → Bool
+all_of f l = list_all f l
 
--- some element passes
-unfoldable pub any_of {ℓ} : {A : Type ℓ} → (A → Bool) → List A → Bool
-any_of f [] = false
-any_of f (a ∷ l) = f a || any_of f l
+abbrev pub any_of : {A : Type 0} → (A → Bool) → List A → Bool
+any_of f l = list_any f l
 
 -- the list has the number
 unfoldable pub has : ℕ → List ℕ → Bool
@@ -59,20 +57,17 @@ different (u ∷ l) = not (has u l) && different l
 unfoldable pub empty_from : ℕ → List ℕ → Bool
 empty_from n l = all_of (λ x. eqb x 0) (drop n l)
 
-module _ {ℓ} {A : Type ℓ} (f : A → Bool) where
+module _ {A : Type 0} (f : A → Bool) where
   pub all_of_at : (l : List A) (i : ℕ) (d : A) → Is (all_of f l) → i < length l → Is (f (get_or l i d))
-  unfolding all_of
   all_of_at [] i d e h = absurd (not-suc-le-zero h)
   all_of_at (a ∷ l) zero d e h = and_l (f a) (all_of f l) e
   all_of_at (a ∷ l) (suc i) d e h = all_of_at l i d (and_r (f a) (all_of f l) e) (omega arith)
 
   pub all_of_all : (l : List A) (d : A) → ((i : ℕ) → i < length l → Is (f (get_or l i d))) → Is (all_of f l)
-  unfolding all_of
   all_of_all [] d h = refl
   all_of_all (a ∷ l) d h = and_i (f a) (all_of f l) (h 0 (omega arith)) (all_of_all l d (λ i hi. h (suc i) (omega arith)))
 
   pub any_of_at : (l : List A) (d : A) → Is (any_of f l) → (i : ℕ) × (i < length l) × Is (f (get_or l i d))
-  unfolding any_of
   any_of_at [] d e = clash {b = false} e refl
   any_of_at (a ∷ l) d e = elim (or_e (f a) (any_of f l) e) [
     | inl h ↦ (0, omega arith, h)
@@ -80,7 +75,6 @@ module _ {ℓ} {A : Type ℓ} (f : A → Bool) where
   ]
 
   pub any_of_any : (l : List A) (i : ℕ) (d : A) → i < length l → Is (f (get_or l i d)) → Is (any_of f l)
-  unfolding any_of
   any_of_any [] i d h e = absurd (not-suc-le-zero h)
   any_of_any (a ∷ l) zero d h e = or_l (f a) (any_of f l) e
   any_of_any (a ∷ l) (suc i) d h e = or_r (f a) (any_of f l) (any_of_any l i d (omega arith) e)
@@ -112,13 +106,13 @@ module _ (l : List ℕ) (i : ℕ) where
   walk_end f h = rw drop_of_length-le
 
 pub has_hit : (l : List ℕ) (i x : ℕ) → i < length l → get_or l i 0 ≡ x → has x (drop i l) ≡ true
-unfolding has any_of
+unfolding has
 has_hit l i x h e = walk_step l i (has x) h ∙ rw (eq-eqb (get_or l i 0) x e)
 
 pub has_miss : (l : List ℕ) (i x : ℕ) → i < length l → (get_or l i 0 ≡ x → ⊥) → has x (drop i l) ≡ has x (drop (i + 1) l)
-unfolding has any_of
+unfolding has
 has_miss l i x h e = walk_step l i (has x) h ∙ rw (ne_eqb (get_or l i 0) x e)
 
 pub has_end : (l : List ℕ) (i x : ℕ) → length l ≤ i → has x (drop i l) ≡ false
-unfolding has any_of
+unfolding has
 has_end l i x h = walk_end l i (has x) h

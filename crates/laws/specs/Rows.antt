@@ -1,18 +1,16 @@
 -- Tables of answers and chains of tests, a law for each kind of row. A chain whose tests tell the rows' sentences gives the table's answer, gives no
 -- other, and tells what the rows above its answer let pass. And two tables whose rows agree give the same answers.
-use Rattle.std.specs.Prelude.{◌≡◌, Bool, true, false, cond, ◌⊎◌, ◌↔◌, ℕ}
+use Rattle.std.specs.Prelude.{◌≡◌, Bool, true, false, cond, ◌⊎◌, ◌↔◌, ℕ, None, Option, Some}
 use Rattle.std.proofs.Math.Path.{refl, ap}
 use Rattle.std.proofs.Common.{sym, ◌∙◌, subst, inl, inr, arith}
-use Rattle.laws.specs.declared.Found.{Found}
-use Rattle.laws.specs.declared.Found.TheVariants.{At, Nothing}
 use Rattle.laws.specs.Tests.{Is, clash, below?}
 use Rattle.laws.specs.Search.{unless}
-use Rattle.laws.specs.Answers.{None, LowestSuch, Table, last, asks, needs, names, the, Gives}
+use Rattle.laws.specs.Answers.{NoSuch, LowestSuch, Table, last, asks, needs, names, the, Gives}
 
 -- a search finds the lowest that is so; there is one lowest
-pub record Finds (o : Found) (Such : ℕ → Type 0) : Type 0 where
-  pub at : (x : ℕ) → o ≡ At x → LowestSuch Such x
-  pub nothing : o ≡ Nothing → None Such
+pub record Finds (o : Option ℕ) (Such : ℕ → Type 0) : Type 0 where
+  pub at : (x : ℕ) → o ≡ Some x → LowestSuch Such x
+  pub nothing : o ≡ None → NoSuch Such
 
 one_lowest : (Such : ℕ → Type 0) (x y : ℕ) → LowestSuch Such x → LowestSuch Such y → x ≡ y
 one_lowest Such x y l m = elim (below? x y) [
@@ -67,12 +65,12 @@ module _ {A : Type 0} {Claim : A → Type 0} where
   needs_not_row {b = true} {So} i w d = let n : (So → ⊥) = λ s. clash {b = true} refl (i.1 s) in record { sole = stop n (n, refl) (λ a h. h.1) (w n) }
   needs_not_row {b = false} i w d = let s = i.0 refl in record { sole = pass s (λ a h. h.0 s) (d s).sole }
 
-  pub names_row : {o : Found} {Such : ℕ → Type 0} {x : ℕ → A} {c : A} {t : Table A} → Finds o Such → ((n : ℕ) → LowestSuch Such n → Claim (x n))
-      → (None Such → Decides A Claim t c) → Decides A Claim (names Such x t) (unless o x c)
+  pub names_row : {o : Option ℕ} {Such : ℕ → Type 0} {x : ℕ → A} {c : A} {t : Table A} → Finds o Such → ((n : ℕ) → LowestSuch Such n → Claim (x n))
+      → (NoSuch Such → Decides A Claim t c) → Decides A Claim (names Such x t) (unless o x c)
   unfolding Gives unless
-  names_row {o = At n} {Such} {x} f w d =
+  names_row {o = Some n} {Such} {x} f w d =
       let l = f.at n refl in record { sole = stop (λ no. no n l.such) (n, l, refl) (λ a h. h.2 ∙ ap x (one_lowest Such h.0 n h.1 l)) (w n l) }
-  names_row {o = Nothing} f w d = let n = f.nothing refl in record { sole = pass n (λ a h. n h.0 h.1.such) (d n).sole }
+  names_row {o = None} f w d = let n = f.nothing refl in record { sole = pass n (λ a h. n h.0 h.1.such) (d n).sole }
 
   -- the one that is so, here n
   pub the_row : {Such : ℕ → Type 0} {c : A} {t : ℕ → Table A} (n : ℕ) → Such n → ((m : ℕ) → Such m → m ≡ n) → Decides A Claim (t n) c
@@ -87,12 +85,12 @@ module _ {A : Type 0} {Claim : A → Type 0} where
   }
 
   -- it is found, or this answer
-  pub found_row : {o : Found} {Such : ℕ → Type 0} {x : A} {f : ℕ → A} {t : ℕ → Table A} → Finds o Such → ((m n : ℕ) → Such m → Such n → m ≡ n)
-      → (None Such → Claim x) → ((n : ℕ) → Such n → Decides A Claim (t n) (f n)) → Decides A Claim (needs ((n : ℕ) × Such n) x (the Such t)) (unless o f x)
+  pub found_row : {o : Option ℕ} {Such : ℕ → Type 0} {x : A} {f : ℕ → A} {t : ℕ → Table A} → Finds o Such → ((m n : ℕ) → Such m → Such n → m ≡ n)
+      → (NoSuch Such → Claim x) → ((n : ℕ) → Such n → Decides A Claim (t n) (f n)) → Decides A Claim (needs ((n : ℕ) × Such n) x (the Such t)) (unless o f x)
   unfolding Gives unless
-  found_row {o = At n} {t = t} i one w d =
+  found_row {o = Some n} {t = t} i one w d =
       let s = (i.at n refl).such in record { sole = pass (n, s) (λ a h. h.0 (n, s)) (the_row {t = t} n s (λ m k. one m n k s) (d n s)).sole }
-  found_row {o = Nothing} {Such} i one w d =
+  found_row {o = None} {Such} i one w d =
       let no = i.nothing refl in
       let n : ((m : ℕ) × Such m → ⊥) = λ s. no s.0 s.1 in
       record { sole = stop n (n, refl) (λ a h. h.1) (w no) }

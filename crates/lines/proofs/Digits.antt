@@ -6,6 +6,8 @@ use Prim.Native.Nat.{ℕ, zero, suc, ◌+◌, ◌-◌, ◌*◌, ◌/◌, ◌%◌
 use native.Mathlib.Omega.{arith}
 use lib.ListN.{length, length-append, get_or-append}
 use borrow.Author.Tests.{lt-ltb, le-ltb}
+use Rattle.std.specs.Fmt.{decimal as written}
+use Rattle.std.proofs.lemmas.Fmt.{decimal_from_appends, length-decimal-le}
 use Rattle.laws.specs.Tests.{below?}
 use Rattle.laws.specs.Lists.{All}
 use Rattle.lines.specs.Decimal.{digit, decimal_in, decimal, value_from, Decimal, number_most}
@@ -20,21 +22,10 @@ in_step : (k n : ℕ) → 10 ≤ n → decimal_in (suc k) n ≡ decimal_in k (n 
 unfolding decimal_in
 in_step k n h = rw (le-ltb n 10 h)
 
--- with enough steps, one more doesn't matter
-in_enough : (k n : ℕ) → n < 10 ^ suc k → decimal_in (suc k) n ≡ decimal_in (suc (suc k)) n
-in_enough zero n h = in_small 0 n (omega arith) ∙ sym (in_small 1 n (omega arith))
-in_enough (suc k) n h = elim (below? n 10) [
-  | inl s ↦ in_small (suc k) n s ∙ sym (in_small (suc (suc k)) n s)
-  | inr s ↦ in_step (suc k) n s ∙ ap (λ l. l ++ digit (n % 10) ∷ []) (in_enough k (n / 10) (omega arith)) ∙ sym (in_step (suc (suc k)) n s)
-]
-
-pub decimal_small : (n : ℕ) → n < 10 → decimal n ≡ digit n ∷ []
+-- What the library writes of a number.
+pub decimal_written : (n : ℕ) → n < 2 ^ 64 → decimal n ≡ written n
 unfolding decimal
-decimal_small n h = in_small 19 n h
-
-pub decimal_step : (n : ℕ) → n < 2 ^ 64 → 10 ≤ n → decimal n ≡ decimal (n / 10) ++ digit (n % 10) ∷ []
-unfolding decimal
-decimal_step n fits h = in_step 19 n h ∙ ap (λ l. l ++ digit (n % 10) ∷ []) (in_enough 18 (n / 10) (omega arith))
+decimal_written n fits = decimal_from_appends decimal_in (record { one = in_small; more = in_step }) 20 n fits (length-decimal-le 20 n (omega arith) (omega arith) fits)
 
 in_most : (k n : ℕ) → length (decimal_in k n) ≤ k
 unfolding decimal_in

@@ -5,5 +5,4 @@ pub mod Shown
 pub mod Most
 pub mod Reread
 pub mod Results
-pub mod ResultsNumbers
 pub mod ResultsText

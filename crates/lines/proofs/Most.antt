@@ -1,4 +1,6 @@
 -- Every line of every answer, verdict and form is at most `line_most` bytes long, and by its words that of 13 can be so long.
+use Rattle.rules.specs.Verdict.{Verdict}
+use Rattle.std.specs.Prelude.{Err, Ok}
 use mathlib.Core.Path.{◌≡◌, refl}
 use mathlib.Core.List.{List, [], ◌∷◌, ◌++◌}
 use Prim.Native.Nat.{ℕ, ◌+◌, ◌≤◌}
@@ -9,8 +11,6 @@ use lib.ListN.{length, length-append}
 use lib.Dec.{lit≤}
 use Rattle.reading.specs.declared.Form.{Form}
 use Rattle.reading.specs.Reading.{form_number, form_offset}
-use Rattle.rules.specs.declared.Verdict.{Verdict}
-use Rattle.rules.specs.declared.Verdict.TheVariants.{Accepted, Broken}
 use Rattle.events.specs.declared.Refusal.TheVariants.{IllFormed, BadEvent, NotRed, Occupied, Held, NotGreen, HomeOccupied, TrainIn, TrainOut, Red}
 use Rattle.events.specs.declared.Harm.TheVariants.{Collision, RunThrough, Derailment}
 use Rattle.events.specs.declared.Deed.TheVariants.{Granted, Cancelled, Entered, Moved, Left}
@@ -66,8 +66,8 @@ answer_most answer = le_trans (line_most_lem (answer_words answer) (table_number
 
 pub verdict_most : (verdict : Verdict) → length (verdict_line verdict) ≤ line_most
 unfolding verdict_line room bytes_of
-verdict_most Accepted = lit≤ tt
-verdict_most (Broken rule row) = le_trans (line_most_lem ("rule " ∷ " row " ∷ []) (rule ∷ row ∷ [])) (lit≤ tt)
+verdict_most (Ok u) = lit≤ tt
+verdict_most (Err b) = le_trans (line_most_lem ("rule " ∷ " row " ∷ []) (b.rule ∷ b.row ∷ [])) (lit≤ tt)
 
 pub form_most : (form : Form) → length (form_line form) ≤ line_most
 unfolding form_line room bytes_of

@@ -1,8 +1,9 @@
 -- The lines that document 01 writes out, computed from the definitions.
+use Rattle.rules.specs.Verdict.{broken}
+use Rattle.std.specs.Prelude.{Ok}
 use mathlib.Core.Path.{◌≡◌, refl}
 use mathlib.Core.List.{[], ◌∷◌, ◌++◌, map}
 use Rattle.reading.specs.declared.Form.TheVariants.{BadNumber, LeftOver}
-use Rattle.rules.specs.declared.Verdict.TheVariants.{Accepted, Broken}
 use Rattle.events.specs.declared.Answer.TheVariants.{Refused, Accident, Done}
 use Rattle.events.specs.declared.Deed.TheVariants.{Granted, Cancelled, Entered, Moved, Left}
 use Rattle.events.specs.declared.Refusal.TheVariants.{NotRed, Occupied, Held, HomeOccupied, Red}
@@ -14,7 +15,7 @@ use Rattle.lines.specs.Lines.{bytes_of, line, refusal_words, harm_words, deed_wo
 printed : map answer_line
     (Done (Entered 1 0) ∷ Refused (Red 0) ∷ Done (Granted 0) ∷ Refused (Held 2) ∷ Done (Moved 1 0 2) ∷ Done (Moved 1 2 3) ∷ Done (Left 1 3)
     ∷ Done (Granted 1) ∷ Done (Cancelled 0) ∷ Refused NotRed ∷ Refused (Occupied 2 1) ∷ Refused (HomeOccupied 0) ∷ Accident (Collision 0) ∷ Accident (RunThrough 2) ∷ Accident (Derailment 2) ∷ [])
-    ++ map verdict_line (Accepted ∷ Broken 8 0 ∷ Broken 12 15 ∷ [])
+    ++ map verdict_line (Ok tt ∷ broken 8 0 ∷ broken 12 15 ∷ [])
     ++ map form_line (BadNumber 12 ∷ LeftOver 18446744073709551615 ∷ [])
     ≡ map bytes_of
     ("entered 1 track 0\n" ∷ "refused 19 signal 0\n" ∷ "granted 0\n" ∷ "refused 14 point 2\n" ∷ "moved 1 from 0 to 2\n" ∷ "moved 1 from 2 to 3\n"

@@ -1,4 +1,6 @@
 -- A word has no digits and a number has nothing else, so that each number of a line is a run of its own; first byte and numbers are then of one answer.
+use Rattle.rules.specs.Verdict.{Verdict, broken}
+use Rattle.std.specs.Prelude.{None, Option, Some, Err, Ok}
 use mathlib.Core.Path.{◌≡◌, refl, sym, ap, ◌∙◌}
 use mathlib.Core.Bool.{Bool, true, false, not, ◌&&◌}
 use mathlib.Core.List.{List, [], ◌∷◌, ◌++◌, append_assoc}
@@ -8,15 +10,11 @@ use native.Mathlib.Omega.{arith}
 use native.Mathlib.Nat.{not-suc-le-zero}
 use lib.ListN.{length, get_or, take}
 use borrow.Author.Tests.{lt-ltb, le-ltb}
-use Rattle.laws.specs.declared.Found.{Found}
-use Rattle.laws.specs.declared.Found.TheVariants.{At, Nothing}
 use Rattle.laws.specs.Tests.{Is, clash, and_l, and_r, not_t}
 use Rattle.laws.specs.Lists.{All, all_map, all_of}
 use Rattle.laws.specs.Search.{first_with}
 use Rattle.reading.specs.declared.Form.{Form}
 use Rattle.reading.proofs.Meaning.{same_form}
-use Rattle.rules.specs.declared.Verdict.{Verdict}
-use Rattle.rules.specs.declared.Verdict.TheVariants.{Accepted, Broken}
 use Rattle.events.specs.declared.Refusal.{Refusal}
 use Rattle.events.specs.declared.Refusal.TheVariants.{IllFormed, BadEvent, NotRed, Occupied, Held, NotGreen, HomeOccupied, TrainIn, TrainOut, Red}
 use Rattle.events.specs.declared.Harm.{Harm}
@@ -38,18 +36,18 @@ Digit b = (digit 0 ≤ b) × (b ≤ digit 9)
 digit_is : (b : ℕ) → Digit b → is_digit b ≡ true
 digit_is b h = rw (le-ltb b (digit 0) h.0, lt-ltb b (digit 10) (omega (arith, h.1)))
 
-run_on : (n : ℕ) (digits rest : List ℕ) → All Digit digits → numbers_from (At n) (digits ++ rest) ≡ numbers_from (At (value_from n digits)) rest
+run_on : (n : ℕ) (digits rest : List ℕ) → All Digit digits → numbers_from (Some n) (digits ++ rest) ≡ numbers_from (Some (value_from n digits)) rest
 unfolding All numbers_from value_from
 run_on n [] rest w = refl
 run_on n (b ∷ digits) rest w = rw (digit_is b w.0) (run_on (n * 10 + (b - digit 0)) digits rest w.1)
 
-run_read : (digits rest : List ℕ) → 0 < length digits → All Digit digits → numbers_from Nothing (digits ++ rest) ≡ numbers_from (At (value_from 0 digits)) rest
+run_read : (digits rest : List ℕ) → 0 < length digits → All Digit digits → numbers_from None (digits ++ rest) ≡ numbers_from (Some (value_from 0 digits)) rest
 unfolding All numbers_from value_from
 run_read [] rest h w = absurd (not-suc-le-zero h)
 run_read (b ∷ digits) rest h w = rw (digit_is b w.0) (run_on (0 * 10 + (b - digit 0)) digits rest w.1)
 
-number_read : (n : ℕ) (rest : List ℕ) → n < 10 ^ number_most → numbers_from Nothing (decimal n ++ rest) ≡ numbers_from (At n) rest
-number_read n rest h = let d = decimal_means n h in run_read (decimal n) rest d.some d.each ∙ ap (λ v. numbers_from (At v) rest) d.value
+number_read : (n : ℕ) (rest : List ℕ) → n < 10 ^ number_most → numbers_from None (decimal n ++ rest) ≡ numbers_from (Some n) rest
+number_read n rest h = let d = decimal_means n h in run_read (decimal n) rest d.some d.each ∙ ap (λ v. numbers_from (Some v) rest) d.value
 
 -- A word: no digit stands in it, and it is not empty, so that a run before it ends.
 
@@ -63,13 +61,13 @@ is_word (b ∷ bytes) = other b && all_of other bytes
 abbrev Word : String → Type 0
 Word word = Is (is_word (bytes_of word))
 
-others_read : (bytes rest : List ℕ) → Is (all_of other bytes) → numbers_from Nothing (bytes ++ rest) ≡ numbers_from Nothing rest
-unfolding all_of numbers_from
+others_read : (bytes rest : List ℕ) → Is (all_of other bytes) → numbers_from None (bytes ++ rest) ≡ numbers_from None rest
+unfolding numbers_from
 others_read [] rest w = refl
 others_read (b ∷ bytes) rest w =
     rw (not_t (is_digit b) (and_l (other b) (all_of other bytes) w)) (others_read bytes rest (and_r (other b) (all_of other bytes) w))
 
-word_read : (run : Found) (bytes rest : List ℕ) → Is (is_word bytes) → numbers_from run (bytes ++ rest) ≡ ended run (numbers_from Nothing rest)
+word_read : (run : Option ℕ) (bytes rest : List ℕ) → Is (is_word bytes) → numbers_from run (bytes ++ rest) ≡ ended run (numbers_from None rest)
 unfolding is_word numbers_from
 word_read run [] rest w = clash {b = false} w refl
 word_read run (b ∷ bytes) rest w =
@@ -77,7 +75,7 @@ word_read run (b ∷ bytes) rest w =
 
 -- A line: as many of its numbers as it has words.
 
-line_read : (run : Found) (words : List String) (numbers : List ℕ) → All Word words → Printable (take (length words) numbers)
+line_read : (run : Option ℕ) (words : List String) (numbers : List ℕ) → All Word words → Printable (take (length words) numbers)
     → numbers_from run (line words numbers) ≡ ended run (take (length words) numbers)
 unfolding All line numbers_from
 line_read run [] numbers w f = refl
@@ -85,7 +83,7 @@ line_read run (word ∷ words) [] w f = refl
 line_read run (word ∷ words) (n ∷ numbers) w f =
     ap (numbers_from run) (append_assoc (bytes_of word) (decimal n) (line words numbers))
     ∙ word_read run (bytes_of word) (decimal n ++ line words numbers) w.0
-    ∙ ap (ended run) (number_read n (line words numbers) f.0 ∙ line_read (At n) words numbers w.1 f.1)
+    ∙ ap (ended run) (number_read n (line words numbers) f.0 ∙ line_read (Some n) words numbers w.1 f.1)
 
 -- an answer's words, and that there is one for each of its numbers
 record Said (a : Answer) : Type 0 where
@@ -93,7 +91,7 @@ record Said (a : Answer) : Type 0 where
   whole : answer_numbers a ≡ table_number a ++ answer_values a
 
 said : (a : Answer) → Said a
-unfolding All all_of is_word bytes_of answer_words refusal_words harm_words deed_words table_number answer_values refusal_values harm_values deed_values
+unfolding All is_word bytes_of answer_words refusal_words harm_words deed_words table_number answer_values refusal_values harm_values deed_values
 said (Refused IllFormed) = record { each = (refl, tt); whole = refl }
 said (Refused BadEvent) = record { each = (refl, tt); whole = refl }
 said (Refused NotRed) = record { each = (refl, tt); whole = refl }
@@ -115,16 +113,16 @@ said (Done (Left train from)) = record { each = (refl, (refl, tt)); whole = refl
 
 answer_read : (a : Answer) → Printable (answer_numbers a) → numbers_in (answer_line a) ≡ answer_numbers a
 unfolding numbers_in answer_line
-answer_read a f = line_read Nothing (answer_words a) (table_number a ++ answer_values a) (said a).each f
+answer_read a f = line_read None (answer_words a) (table_number a ++ answer_values a) (said a).each f
 
 verdict_read : (v : Verdict) → Printable (verdict_numbers v) → numbers_in (verdict_line v) ≡ verdict_numbers v
-unfolding All all_of is_word bytes_of numbers_in numbers_from verdict_line
-verdict_read Accepted f = refl
-verdict_read (Broken rule row) f = line_read Nothing ("rule " ∷ " row " ∷ []) (rule ∷ row ∷ []) (refl, (refl, tt)) f
+unfolding All is_word bytes_of numbers_in numbers_from verdict_line
+verdict_read (Ok u) f = refl
+verdict_read (Err b) f = line_read None ("rule " ∷ " row " ∷ []) (b.rule ∷ b.row ∷ []) (refl, (refl, tt)) f
 
 form_read : (f : Form) → Printable (form_numbers f) → numbers_in (form_line f) ≡ form_numbers f
-unfolding All all_of is_word bytes_of numbers_in form_line
-form_read f w = line_read Nothing ("form " ∷ " at " ∷ []) (form_numbers f) (refl, (refl, tt)) w
+unfolding All is_word bytes_of numbers_in form_line
+form_read f w = line_read None ("form " ∷ " at " ∷ []) (form_numbers f) (refl, (refl, tt)) w
 
 -- Back from a first byte and numbers.
 
@@ -173,13 +171,13 @@ module _ (a b : Answer) (v : Printable (answer_numbers a)) (w : Printable (answe
   one_answer_lem = sym (answer_back a) ∙ rw (e, same_numbers) (answer_back b)
 
 verdict_of : List ℕ → Verdict
-verdict_of [] = Accepted
-verdict_of (rule ∷ rest) = Broken rule (get_or rest 0 0)
+verdict_of [] = Ok tt
+verdict_of (rule ∷ rest) = broken rule (get_or rest 0 0)
 
 verdict_back : (v : Verdict) → verdict_of (verdict_numbers v) ≡ v
 unfolding verdict_of
-verdict_back Accepted = refl
-verdict_back (Broken rule row) = refl
+verdict_back (Ok u) = refl
+verdict_back (Err b) = refl
 
 one_verdict_lem : (v w : Verdict) → Printable (verdict_numbers v) → Printable (verdict_numbers w) → verdict_line v ≡ verdict_line w → v ≡ w
 one_verdict_lem v w f g e = sym (verdict_back v) ∙ ap verdict_of (sym (verdict_read v f) ∙ ap numbers_in e ∙ verdict_read w g) ∙ verdict_back w

@@ -1,14 +1,13 @@
 -- Written by .ci/contracts --write: for each function of src/lib.rt, that any two results that its contract allows are the same.
-use Rattle.std.specs.Prelude.{ℕ, ◌≡◌ as ◌is◌, List, ◌≡◌}
+use Rattle.std.specs.Prelude.{ℕ, ◌≡◌ as ◌is◌, List, Result, ◌≡◌}
 use Rattle.laws.specs.Once.{equal_once}
 use Rattle.events.specs.declared.Refusal.{Refusal}
 use Rattle.laws.specs.Written.{wrote_once, Wrote}
 use Rattle.events.specs.declared.Harm.{Harm}
 use Rattle.events.specs.declared.Deed.{Deed}
 use Rattle.events.specs.declared.Answer.{Answer}
-use Rattle.rules.specs.declared.Verdict.{Verdict}
+use Rattle.rules.specs.declared.Broken.{Broken}
 use Rattle.reading.specs.declared.Form.{Form}
-use Rattle.events.specs.declared.Deed.TheVariants.{Entered, Moved, Left}
 use Rattle.events.specs.declared.Answer.TheVariants.{Refused, Accident, Done}
 use Rattle.lines.specs.Lines.{answer_line, verdict_line, form_line, line_most}
 
@@ -30,24 +29,6 @@ pub harm_line_once : (harm : Harm) (out : List ℕ) (at r r₂ : ℕ) (out' out'
     → (out' is out'') × (r is r₂)
 harm_line_once harm out at r r₂ out' out'' by_one by_other = wrote_once _ _ _ _ _ _ _ by_one by_other
 
-pub entered_line_once : (train track : ℕ) (out : List ℕ) (at r r₂ : ℕ) (out' out'' : List ℕ)
-    → (Wrote (answer_line (Done (Entered train track))) out at out' r)
-    → (Wrote (answer_line (Done (Entered train track))) out at out'' r₂)
-    → (out' is out'') × (r is r₂)
-entered_line_once train track out at r r₂ out' out'' by_one by_other = wrote_once _ _ _ _ _ _ _ by_one by_other
-
-pub moved_line_once : (train from to : ℕ) (out : List ℕ) (at r r₂ : ℕ) (out' out'' : List ℕ)
-    → (Wrote (answer_line (Done (Moved train from to))) out at out' r)
-    → (Wrote (answer_line (Done (Moved train from to))) out at out'' r₂)
-    → (out' is out'') × (r is r₂)
-moved_line_once train from to out at r r₂ out' out'' by_one by_other = wrote_once _ _ _ _ _ _ _ by_one by_other
-
-pub left_line_once : (train from : ℕ) (out : List ℕ) (at r r₂ : ℕ) (out' out'' : List ℕ)
-    → (Wrote (answer_line (Done (Left train from))) out at out' r)
-    → (Wrote (answer_line (Done (Left train from))) out at out'' r₂)
-    → (out' is out'') × (r is r₂)
-left_line_once train from out at r r₂ out' out'' by_one by_other = wrote_once _ _ _ _ _ _ _ by_one by_other
-
 pub deed_line_once : (deed : Deed) (out : List ℕ) (at r r₂ : ℕ) (out' out'' : List ℕ)
     → (Wrote (answer_line (Done deed)) out at out' r)
     → (Wrote (answer_line (Done deed)) out at out'' r₂)
@@ -60,7 +41,7 @@ pub answer_line_once : (answer : Answer) (out : List ℕ) (at r r₂ : ℕ) (out
     → (out' is out'') × (r is r₂)
 answer_line_once answer out at r r₂ out' out'' by_one by_other = wrote_once _ _ _ _ _ _ _ by_one by_other
 
-pub verdict_line_once : (verdict : Verdict) (out : List ℕ) (at r r₂ : ℕ) (out' out'' : List ℕ)
+pub verdict_line_once : (verdict : Result Unit Broken) (out : List ℕ) (at r r₂ : ℕ) (out' out'' : List ℕ)
     → (Wrote (verdict_line verdict) out at out' r)
     → (Wrote (verdict_line verdict) out at out'' r₂)
     → (out' is out'') × (r is r₂)

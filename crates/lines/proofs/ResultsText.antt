@@ -1,8 +1,9 @@
 -- Written by .ci/contracts --write: for each function of src/text.rt, that any two results that its contract allows are the same.
 use Rattle.std.specs.Prelude.{ℕ, List, ◌≡◌ as ◌is◌, ◌++◌}
 use Rattle.laws.specs.Written.{wrote_once, Wrote}
+use denote.Bor.{Bor}
 use Rattle.lines.specs.Decimal.{decimal}
-use Rattle.lines.specs.Lines.{end}
+use Rattle.lines.specs.Lines.{end, parts_line}
 
 pub put_decimal_once : (n : ℕ) (out : List ℕ) (at r r₂ : ℕ) (out' out'' : List ℕ)
     → (Wrote (decimal n) out at out' r)
@@ -22,14 +23,8 @@ pub put_end_once : (out : List ℕ) (at r r₂ : ℕ) (out' out'' : List ℕ)
     → (out' is out'') × (r is r₂)
 put_end_once out at r r₂ out' out'' by_one by_other = wrote_once _ _ _ _ _ _ _ by_one by_other
 
-pub line_of_one_once : (word : List ℕ) (n : ℕ) (out : List ℕ) (at r r₂ : ℕ) (out' out'' : List ℕ)
-    → (Wrote (word ++ decimal n ++ end) out at out' r)
-    → (Wrote (word ++ decimal n ++ end) out at out'' r₂)
+pub put_line_once : (parts : List ((Bor (List ℕ)) × ℕ)) (out : List ℕ) (at r r₂ : ℕ) (out' out'' : List ℕ)
+    → (Wrote (parts_line parts) out at out' r)
+    → (Wrote (parts_line parts) out at out'' r₂)
     → (out' is out'') × (r is r₂)
-line_of_one_once word n out at r r₂ out' out'' by_one by_other = wrote_once _ _ _ _ _ _ _ by_one by_other
-
-pub line_of_two_once : (word : List ℕ) (n : ℕ) (second : List ℕ) (m : ℕ) (out : List ℕ) (at r r₂ : ℕ) (out' out'' : List ℕ)
-    → (Wrote (word ++ decimal n ++ (second ++ decimal m ++ end)) out at out' r)
-    → (Wrote (word ++ decimal n ++ (second ++ decimal m ++ end)) out at out'' r₂)
-    → (out' is out'') × (r is r₂)
-line_of_two_once word n second m out at r r₂ out' out'' by_one by_other = wrote_once _ _ _ _ _ _ _ by_one by_other
+put_line_once parts out at r r₂ out' out'' by_one by_other = wrote_once _ _ _ _ _ _ _ by_one by_other

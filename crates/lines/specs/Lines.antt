@@ -1,11 +1,11 @@
 -- The printed lines of document 01, "The bench plan, byte by byte": an answer, a verdict or a form as the bytes of its line.
-use Rattle.std.specs.Prelude.{List, [], ◌∷◌, ◌++◌, ℕ, ◌+◌}
+use Rattle.rules.specs.Verdict.{Verdict}
+use Rattle.std.specs.Prelude.{List, [], ◌∷◌, ◌++◌, ℕ, ◌+◌, length, Err, Ok}
+use denote.Bor.{Bor}
 use Prim.Native.Char.{code}
 use Prim.Native.String.{String, [] as empty, ◌∷◌ as ◌then◌}
 use Rattle.reading.specs.declared.Form.{Form}
 use Rattle.reading.specs.Reading.{form_number, form_offset}
-use Rattle.rules.specs.declared.Verdict.{Verdict}
-use Rattle.rules.specs.declared.Verdict.TheVariants.{Accepted, Broken}
 use Rattle.events.specs.declared.Refusal.{Refusal}
 use Rattle.events.specs.declared.Refusal.TheVariants.{IllFormed, BadEvent, NotRed, Occupied, Held, NotGreen, HomeOccupied, TrainIn, TrainOut, Red}
 use Rattle.events.specs.declared.Harm.{Harm}
@@ -31,6 +31,15 @@ unfoldable pub line : List String → List ℕ → List ℕ
 line [] numbers = end
 line (word ∷ words) [] = end
 line (word ∷ words) (n ∷ numbers) = bytes_of word ++ decimal n ++ line words numbers
+
+-- the same of words and numbers as the code has them, and the room that they may need
+unfoldable pub parts_line : List (Bor (List ℕ) × ℕ) → List ℕ
+parts_line [] = end
+parts_line (part ∷ parts) = part.0.now ++ decimal part.1 ++ parts_line parts
+
+unfoldable pub parts_most : List (Bor (List ℕ) × ℕ) → ℕ
+parts_most [] = 1
+parts_most (part ∷ parts) = length part.0.now + number_most + parts_most parts
 
 -- The words of an answer, each before its number. 13 names a track and the train on it, 16 a track, 14 a point, 19 a signal; 40 and 41 a track, 42 a
 -- point.
@@ -74,8 +83,8 @@ unfoldable pub answer_line : Answer → List ℕ
 answer_line answer = line (answer_words answer) (table_number answer ++ answer_values answer)
 
 unfoldable pub verdict_line : Verdict → List ℕ
-verdict_line Accepted = bytes_of "accepted" ++ end
-verdict_line (Broken rule row) = line ("rule " ∷ " row " ∷ []) (rule ∷ row ∷ [])
+verdict_line (Ok u) = bytes_of "accepted" ++ end
+verdict_line (Err b) = line ("rule " ∷ " row " ∷ []) (b.rule ∷ b.row ∷ [])
 
 unfoldable pub form_line : Form → List ℕ
 form_line form = line ("form " ∷ " at " ∷ []) (form_number form ∷ form_offset form ∷ [])

@@ -1,13 +1,10 @@
 -- What can be read back from a printed line: the numbers that stand in it, and so what the line shows. Proved in proofs/Reread.antt. What can be read from a
 -- code stands in codes/specs/Decoding.antt.
-use Rattle.std.specs.Prelude.{◌≡◌, Bool, not, cond, ◌&&◌, List, [], ◌∷◌, ◌++◌, ℕ, ◌+◌, ◌-◌, ◌*◌, ◌^◌, ◌<◌, length, take, ltb}
-use Rattle.laws.specs.declared.Found.{Found}
-use Rattle.laws.specs.declared.Found.TheVariants.{At, Nothing}
+use Rattle.rules.specs.Verdict.{Verdict}
+use Rattle.std.specs.Prelude.{◌≡◌, Bool, not, cond, ◌&&◌, List, [], ◌∷◌, ◌++◌, ℕ, ◌+◌, ◌-◌, ◌*◌, ◌^◌, ◌<◌, length, take, ltb, None, Option, Some, Err, Ok}
 use Rattle.laws.specs.Lists.{All}
 use Rattle.reading.specs.declared.Form.{Form}
 use Rattle.reading.specs.Reading.{form_number, form_offset}
-use Rattle.rules.specs.declared.Verdict.{Verdict}
-use Rattle.rules.specs.declared.Verdict.TheVariants.{Accepted, Broken}
 use Rattle.events.specs.declared.Answer.{Answer}
 use Rattle.events.specs.Answers.{answer_values}
 use Rattle.lines.specs.Decimal.{digit, number_most}
@@ -19,21 +16,21 @@ abbrev pub is_digit : ℕ → Bool
 is_digit b = not (ltb b (digit 0)) && ltb b (digit 10)
 
 -- a run of digits that has begun, with the number that it stands for so far, or none
-abbrev pub so_far : Found → ℕ
-so_far (At n) = n
-so_far Nothing = 0
+abbrev pub so_far : Option ℕ → ℕ
+so_far (Some n) = n
+so_far None = 0
 
 -- the run is over: its number comes first
-abbrev pub ended : Found → List ℕ → List ℕ
-ended (At n) numbers = n ∷ numbers
-ended Nothing numbers = numbers
+abbrev pub ended : Option ℕ → List ℕ → List ℕ
+ended (Some n) numbers = n ∷ numbers
+ended None numbers = numbers
 
-unfoldable pub numbers_from : Found → List ℕ → List ℕ
+unfoldable pub numbers_from : Option ℕ → List ℕ → List ℕ
 numbers_from run [] = ended run []
-numbers_from run (b ∷ bytes) = cond (is_digit b) (numbers_from (At (so_far run * 10 + (b - digit 0))) bytes) (ended run (numbers_from Nothing bytes))
+numbers_from run (b ∷ bytes) = cond (is_digit b) (numbers_from (Some (so_far run * 10 + (b - digit 0))) bytes) (ended run (numbers_from None bytes))
 
 unfoldable pub numbers_in : List ℕ → List ℕ
-numbers_in bytes = numbers_from Nothing bytes
+numbers_in bytes = numbers_from None bytes
 
 -- The numbers that lines show. That of an answer shows one for each of its words.
 
@@ -41,8 +38,8 @@ abbrev pub answer_numbers : Answer → List ℕ
 answer_numbers a = take (length (answer_words a)) (table_number a ++ answer_values a)
 
 abbrev pub verdict_numbers : Verdict → List ℕ
-verdict_numbers Accepted = []
-verdict_numbers (Broken rule row) = rule ∷ row ∷ []
+verdict_numbers (Ok u) = []
+verdict_numbers (Err b) = b.rule ∷ b.row ∷ []
 
 abbrev pub form_numbers : Form → List ℕ
 form_numbers f = form_number f ∷ form_offset f ∷ []

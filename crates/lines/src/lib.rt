@@ -1,20 +1,17 @@
 // An answer, a verdict or a form as the line that is printed, written into lent memory.
-#![tactic(auto)]
+#![tactic(auto, unfolding(crate::specs::Lines::parts_most))]
 
 ghost use Rattle.std.specs.Prelude.{◌≡◌, ◌+◌, ◌≤◌, length};
-ghost use Rattle.events.specs.declared.Deed.TheVariants.{Entered, Moved, Left};
 ghost use Rattle.events.specs.declared.Answer.TheVariants.{Refused, Accident, Done};
 ghost use Rattle.lines.specs.Lines.{answer_line, verdict_line, form_line, line_most};
 ghost use Rattle.laws.specs.Written.{Wrote};
 
 use events::{Answer, Deed, Harm, Refusal};
-use lists::{put_bytes, wide};
-use numbers::{form_number, form_offset, harm_number, refusal_number};
+use lists::put_bytes;
 use reading::Form;
-use rules::Verdict;
-use text::{line_of_one, line_of_two, put_end, put_number};
+use rules::Broken;
+use text::{put_end, put_line};
 
-pub mod numbers;
 mod text;
 
 // The room that any line may need, as specs/Lines.antt has it: `line_most` ties the two.
@@ -31,15 +28,20 @@ fn refusal_line(refusal: Refusal, out: &mut [u8], at: usize) -> usize
     requires { at + line_most ≤ length out.old }
     ensures { Wrote (answer_line (Refused refusal)) out.old at out.new result }
 {
-    let next = put_number(b"refused ", refusal_number(refusal), out, at);
+    let refused: (&[u8], usize) = (b"refused ", refusal.number());
     match refusal {
         Refusal::Occupied(track, train) => {
-            line_of_two(b" track ", track, b" train ", wide(train), out, next)
+            let train = usize::from(train);
+            put_line(
+                &[refused, (b" track ", track), (b" train ", train)],
+                out,
+                at,
+            )
         }
-        Refusal::Held(point) => line_of_one(b" point ", point, out, next),
-        Refusal::HomeOccupied(track) => line_of_one(b" track ", track, out, next),
-        Refusal::Red(signal) => line_of_one(b" signal ", signal, out, next),
-        _ => put_end(out, next),
+        Refusal::Held(point) => put_line(&[refused, (b" point ", point)], out, at),
+        Refusal::HomeOccupied(track) => put_line(&[refused, (b" track ", track)], out, at),
+        Refusal::Red(signal) => put_line(&[refused, (b" signal ", signal)], out, at),
+        _ => put_line(&[refused], out, at),
     }
 }
 
@@ -48,35 +50,13 @@ fn harm_line(harm: Harm, out: &mut [u8], at: usize) -> usize
     requires { at + line_most ≤ length out.old }
     ensures { Wrote (answer_line (Accident harm)) out.old at out.new result }
 {
-    let next = put_number(b"accident ", harm_number(harm), out, at);
+    let accident: (&[u8], usize) = (b"accident ", harm.number());
     match harm {
-        Harm::Collision(track) => line_of_one(b" track ", track, out, next),
-        Harm::RunThrough(track) => line_of_one(b" track ", track, out, next),
-        Harm::Derailment(point) => line_of_one(b" point ", point, out, next),
+        Harm::Collision(track) | Harm::RunThrough(track) => {
+            put_line(&[accident, (b" track ", track)], out, at)
+        }
+        Harm::Derailment(point) => put_line(&[accident, (b" point ", point)], out, at),
     }
-}
-
-// A train's comings and goings.
-fn entered_line(train: u8, track: usize, out: &mut [u8], at: usize) -> usize
-    requires { at + line_most ≤ length out.old }
-    ensures { Wrote (answer_line (Done (Entered train track))) out.old at out.new result }
-{
-    line_of_two(b"entered ", wide(train), b" track ", track, out, at)
-}
-
-fn moved_line(train: u8, from: usize, to: usize, out: &mut [u8], at: usize) -> usize
-    requires { at + line_most ≤ length out.old }
-    ensures { Wrote (answer_line (Done (Moved train from to))) out.old at out.new result }
-{
-    let next = put_number(b"moved ", wide(train), out, at);
-    line_of_two(b" from ", from, b" to ", to, out, next)
-}
-
-fn left_line(train: u8, from: usize, out: &mut [u8], at: usize) -> usize
-    requires { at + line_most ≤ length out.old }
-    ensures { Wrote (answer_line (Done (Left train from))) out.old at out.new result }
-{
-    line_of_two(b"left ", wide(train), b" from ", from, out, at)
 }
 
 // A deed's line.
@@ -85,11 +65,24 @@ fn deed_line(deed: Deed, out: &mut [u8], at: usize) -> usize
     ensures { Wrote (answer_line (Done deed)) out.old at out.new result }
 {
     match deed {
-        Deed::Granted(route) => line_of_one(b"granted ", route, out, at),
-        Deed::Cancelled(route) => line_of_one(b"cancelled ", route, out, at),
-        Deed::Entered { train, track } => entered_line(train, track, out, at),
-        Deed::Moved { train, from, to } => moved_line(train, from, to, out, at),
-        Deed::Left { train, from } => left_line(train, from, out, at),
+        Deed::Granted(route) => put_line(&[(b"granted ", route)], out, at),
+        Deed::Cancelled(route) => put_line(&[(b"cancelled ", route)], out, at),
+        Deed::Entered { train, track } => {
+            let train = usize::from(train);
+            put_line(&[(b"entered ", train), (b" track ", track)], out, at)
+        }
+        Deed::Moved { train, from, to } => {
+            let train = usize::from(train);
+            put_line(
+                &[(b"moved ", train), (b" from ", from), (b" to ", to)],
+                out,
+                at,
+            )
+        }
+        Deed::Left { train, from } => {
+            let train = usize::from(train);
+            put_line(&[(b"left ", train), (b" from ", from)], out, at)
+        }
     }
 }
 
@@ -106,15 +99,17 @@ pub fn answer_line(answer: Answer, out: &mut [u8], at: usize) -> usize
 }
 
 // A verdict's line.
-pub fn verdict_line(verdict: Verdict, out: &mut [u8], at: usize) -> usize
+pub fn verdict_line(verdict: Result<(), Broken>, out: &mut [u8], at: usize) -> usize
     requires { at + line_most ≤ length out.old }
     ensures { Wrote (verdict_line verdict) out.old at out.new result }
 {
-    if let Verdict::Broken { rule, row } = verdict {
-        return line_of_two(b"rule ", rule, b" row ", row, out, at);
+    match verdict {
+        Ok(()) => {
+            let next = put_bytes(b"accepted", out, at);
+            put_end(out, next)
+        }
+        Err(Broken { rule, row }) => { put_line(&[(b"rule ", rule), (b" row ", row)], out, at) }
     }
-    let next = put_bytes(b"accepted", out, at);
-    put_end(out, next)
 }
 
 // A form's line.
@@ -122,11 +117,8 @@ pub fn form_line(form: Form, out: &mut [u8], at: usize) -> usize
     requires { at + line_most ≤ length out.old }
     ensures { Wrote (form_line form) out.old at out.new result }
 {
-    line_of_two(
-        b"form ",
-        form_number(form),
-        b" at ",
-        form_offset(form),
+    put_line(
+        &[(b"form ", form.number()), (b" at ", form.offset())],
         out,
         at,
     )

@@ -1,27 +1,23 @@
 // Bytes one after the other into lent memory: each function hands back the offset after what it wrote.
 ghost use Rattle.std.specs.Prelude.{◌++◌, ◌+◌, ◌<◌, ◌≤◌, length};
 ghost use Rattle.lines.specs.Decimal.{decimal, number_most};
-ghost use Rattle.lines.specs.Lines.{end};
+ghost use Rattle.lines.specs.Lines.{end, parts_line, parts_most};
 ghost use Rattle.laws.specs.Written.{Wrote};
 
+use itoa::Buffer;
 use lists::put_bytes;
 
 // A number's decimal digits.
-pub fn put_decimal(n: usize, out: &mut [u8], at: usize) -> usize
+fn put_decimal(n: usize, out: &mut [u8], at: usize) -> usize
     requires { at + number_most ≤ length out.old }
     ensures { Wrote (decimal n) out.old at out.new result }
 {
-    if n < 10 {
-        out[at] = b'0' + n as u8;
-        return at + 1;
-    }
-    let last = put_decimal(n / 10, out, at);
-    out[last] = b'0' + (n % 10) as u8;
-    last + 1
+    let mut digits = Buffer::new();
+    put_bytes(digits.format(n).as_bytes(), out, at)
 }
 
 // A word and a number.
-pub fn put_number(word: &[u8], n: usize, out: &mut [u8], at: usize) -> usize
+fn put_number(word: &[u8], n: usize, out: &mut [u8], at: usize) -> usize
     requires { at + (length word.now + number_most) ≤ length out.old }
     ensures { Wrote (word.now ++ decimal n) out.old at out.new result }
 {
@@ -38,27 +34,14 @@ pub fn put_end(out: &mut [u8], at: usize) -> usize
     at + 1
 }
 
-// A line of a word and a number.
-pub fn line_of_one(word: &[u8], n: usize, out: &mut [u8], at: usize) -> usize
-    requires { at + (length word.now + number_most + 1) ≤ length out.old }
-    ensures { Wrote (word.now ++ decimal n ++ end) out.old at out.new result }
+// A line of words, each with its number.
+pub fn put_line(parts: &[(&[u8], usize)], out: &mut [u8], at: usize) -> usize
+    requires { at + parts_most parts.now ≤ length out.old }
+    ensures { Wrote (parts_line parts.now) out.old at out.new result }
 {
-    let next = put_number(word, n, out, at);
+    let mut next = at;
+    for (word, n) in parts {
+        next = put_number(word, *n, out, next);
+    }
     put_end(out, next)
-}
-
-// A line of two words, each with its number.
-pub fn line_of_two(
-    word: &[u8],
-    n: usize,
-    second: &[u8],
-    m: usize,
-    out: &mut [u8],
-    at: usize,
-) -> usize
-    requires { at + (length word.now + number_most + (length second.now + number_most + 1)) ≤ length out.old }
-    ensures { Wrote (word.now ++ decimal n ++ (second.now ++ decimal m ++ end)) out.old at out.new result }
-{
-    let next = put_number(word, n, out, at);
-    line_of_one(second, m, out, next)
 }

@@ -1,14 +1,8 @@
 -- Written by .ci/contracts --write: for each function of src/lib.rt, that any two results that its contract allows are the same.
-use Rattle.std.specs.Prelude.{ℕ, ◌≡◌ as ◌is◌, List, Bool, ◌≡◌, cond, not, ltb}
+use Rattle.std.specs.Prelude.{List, ℕ, Bool, ◌≡◌ as ◌is◌, ◌≡◌, not, ltb, drop}
 use Rattle.laws.specs.Once.{equal_once}
 use Rattle.laws.specs.Written.{wrote_once, Wrote}
-use Rattle.laws.specs.Lists.{all_of, has, different, empty_from}
-
-pub wide_once : (x r r₂ : ℕ)
-    → (r ≡ x)
-    → (r₂ ≡ x)
-    → r is r₂
-wide_once x r r₂ by_one by_other = equal_once _ _ _ by_one by_other
+use Rattle.laws.specs.Lists.{all_of, has, different}
 
 pub has_once : (list : List ℕ) (x : ℕ) (r r₂ : Bool)
     → (r ≡ has x list)
@@ -40,23 +34,11 @@ pub different_once : (list : List ℕ) (r r₂ : Bool)
     → r is r₂
 different_once list r r₂ by_one by_other = equal_once _ _ _ by_one by_other
 
-pub higher_once : (a b r r₂ : ℕ)
-    → (r ≡ cond (ltb a b) b a)
-    → (r₂ ≡ cond (ltb a b) b a)
+pub only_from_once : (T : Type 0) (T_eq : T → T → Bool) (from : ℕ) (list : List T) (value : T) (r r₂ : Bool)
+    → (r ≡ all_of (λ x. T_eq x value) (drop from list))
+    → (r₂ ≡ all_of (λ x. T_eq x value) (drop from list))
     → r is r₂
-higher_once a b r r₂ by_one by_other = equal_once _ _ _ by_one by_other
-
-pub empty_from_once : (from : ℕ) (list : List ℕ) (r r₂ : Bool)
-    → (r ≡ empty_from from list)
-    → (r₂ ≡ empty_from from list)
-    → r is r₂
-empty_from_once from list r r₂ by_one by_other = equal_once _ _ _ by_one by_other
-
-pub none_from_once : (from : ℕ) (list : List ℕ) (r r₂ : Bool)
-    → (r ≡ empty_from from list)
-    → (r₂ ≡ empty_from from list)
-    → r is r₂
-none_from_once from list r r₂ by_one by_other = equal_once _ _ _ by_one by_other
+only_from_once T T_eq from list value r r₂ by_one by_other = equal_once _ _ _ by_one by_other
 
 pub put_bytes_once : (list out : List ℕ) (at r r₂ : ℕ) (out' out'' : List ℕ)
     → (Wrote list out at out' r)

@@ -1,14 +1,15 @@
 -- The loops that store, turn by turn: what is left to copy from here on makes the whole copy. Assumes nothing.
-use mathlib.Core.Path.{◌≡◌}
+use mathlib.Core.Path.{◌≡◌, refl}
 use mathlib.Core.List.{List}
-use Prim.Native.Nat.{ℕ, suc, ◌+◌, ◌*◌, ◌-◌, ◌<◌, ◌≤◌}
-use native.Mathlib.Nat.{add-zero, sub-zero, add-suc, mul-zero, mul-suc}
+use Prim.Native.Nat.{ℕ, zero, suc, ◌+◌, ◌*◌, ◌-◌, ◌<◌, ◌≤◌}
+use native.Mathlib.Nat.{add-zero, sub-zero, add-suc, mul-suc}
 use native.Mathlib.Numerals.{add-one}
 use native.Mathlib.Omega.{arith}
 use lib.ListN.{length, get_or, take, drop, set}
 use lib.Seq.{sets, drop-cons}
 use Rattle.plan.specs.Limits.{path_at, clear_at, normal_at, reverse_at, releases_at, release_size}
-use Rattle.loading.specs.Storing.{list_end, copy_list, clear_from, normal_from, reverse_from, releases_from, copy_route, Part, copy_many, copy_counted, ListRoom, ManyRoom, CountedRoom}
+use Rattle.loading.specs.Storing.{list_end, copy_list, clear_from, normal_from, reverse_from, releases_from, copy_route, Part, copy_many, ListRoom, ManyRoom, StepsRoom, IsCopy, copied}
+use Rattle.std.specs.Borrow.{MutBor}
 
 -- The bytes of a list with its count: the first i of them are copied.
 pub record BytesLeft (size : ℕ) (file : List ℕ) (at to bytes : ℕ) (whole : List ℕ) (i : ℕ) (image : List ℕ) : Type 0 where
@@ -39,41 +40,6 @@ module _ (size : ℕ) (file : List ℕ) (at : ℕ) {count : ℕ} (e : count ≡ 
   unfolding list_end
   bytes_end = rw e (omega arith)
 
--- Parts with their count before them: the first i of them are copied.
-pub record PartsLeft (part : Part) (file : List ℕ) (count to : ℕ) (whole : List ℕ) (at i : ℕ) (image : List ℕ) : Type 0 where
-  pub within : i ≤ count
-  pub rooms : ManyRoom part (count - i) file at (to + part.size * i)
-  pub rest : copy_many part (count - i) file at (to + part.size * i) image ≡ whole
-
-module _ {part : Part} {file : List ℕ} {count to : ℕ} {whole : List ℕ} {at i : ℕ} {image : List ℕ} where
-  pub parts_room : PartsLeft part file count to whole at i image → i < count → part.room file at (to + part.size * i)
-  unfolding ManyRoom
-  parts_room l h = let left : count - i ≡ suc (count - (i + 1)) = omega arith in (rw left at l.rooms).0
-
-  pub parts_turn : {next : ℕ} {stored : List ℕ} → PartsLeft part file count to whole at i image
-      → i < count → (next ≡ part.end file at) × (stored ≡ part.copy file at (to + part.size * i) image) → PartsLeft part file count to whole next (i + 1) stored
-  unfolding ManyRoom copy_many
-  parts_turn l h e =
-      let left : count - i ≡ suc (count - (i + 1)) = omega arith in
-      let place : to + part.size * i + part.size ≡ to + part.size * (i + 1) = rw (add-one i, mul-suc part.size i) (omega arith) in
-      record {
-        within = omega arith;
-        rooms = rw (e.0, ← place) (rw left at l.rooms).1;
-        rest = rw (e.0, e.1, ← place) (rw left at l.rest);
-      }
-
-  pub parts_stop : PartsLeft part file count to whole at i image → count ≤ i → image ≡ whole
-  unfolding copy_many
-  parts_stop l h = let none : count - i ≡ 0 = omega arith in rw none at l.rest
-
-module _ (part : Part) (file : List ℕ) (from to : ℕ) {count : ℕ} (e : count ≡ get_or file from 0) (image : List ℕ) where
-  pub parts_start : CountedRoom part file from to → PartsLeft part file count (to + 1) (copy_many part count file (from + 1) (to + 1) image) (from + 1) 0 image
-  parts_start r = record { within = omega arith; rooms = simp (mul-zero, add-zero, sub-zero, e) r.each; rest = simp (mul-zero, add-zero, sub-zero) }
-
-  pub parts_whole : copy_many part count file (from + 1) (to + 1) (set image to (get_or file from 0)) ≡ copy_counted part file from to image
-  unfolding copy_counted
-  parts_whole = rw e
-
 -- A route's lists, each copied from where the one before it ends, make the route's copy.
 pub route_lists_copied : (file : List ℕ) (at to : ℕ) (image : List ℕ) {clear normal reverse releases : ℕ} {m₁ m₂ m₃ m₄ m₅ : List ℕ}
     → clear ≡ clear_from file at → normal ≡ normal_from file at → reverse ≡ reverse_from file at → releases ≡ releases_from file at
@@ -82,3 +48,44 @@ pub route_lists_copied : (file : List ℕ) (at to : ℕ) (image : List ℕ) {cle
     → m₅ ≡ copy_list release_size file releases (to + releases_at) m₄ → m₅ ≡ copy_route file at to image
 unfolding copy_route
 route_lists_copied file at to image c n r l e₁ e₂ e₃ e₄ e₅ = rw (e₅, e₄, e₃, e₂, e₁, c, n, r, l)
+
+-- A step that is given: one part is stored, the others are left.
+module _ (pre : ℕ → MutBor (List ℕ) → ℕ → Type 0) (post : ℕ → MutBor (List ℕ) → ℕ → ℕ → MutBor (List ℕ) → Type 0) (size count done at to : ℕ) where
+  pub steps_now : StepsRoom pre post size (count - done) at (to + size * done) → done < count → (image : MutBor (List ℕ)) → pre at image (to + size * done)
+  unfolding StepsRoom
+  steps_now room h = let left : count - done ≡ suc (count - (done + 1)) = omega arith in (rw left at room).0
+
+  pub steps_on : StepsRoom pre post size (count - done) at (to + size * done) → done < count → (image after : MutBor (List ℕ)) (end : ℕ) → post at image (to + size * done) end after
+      → StepsRoom pre post size (count - (done + 1)) end (to + size * (done + 1))
+  unfolding StepsRoom
+  steps_on room h image after end told =
+      let left : count - done ≡ suc (count - (done + 1)) = omega arith in
+      let place : to + size * done + size ≡ to + size * (done + 1) = rw (add-one done, mul-suc size done) (omega arith) in
+      rw place at ((rw left at room).1 image after end told)
+
+module _ (end : ℕ → ℕ) (copy : ℕ → ℕ → List ℕ → List ℕ) (size count done at to : ℕ) (image : List ℕ) where
+  pub copied_on : {next : ℕ} {after : List ℕ} → done < count → next ≡ end at → after ≡ copy at (to + size * done) image
+      → copied end copy size (count - (done + 1)) next (to + size * (done + 1)) after ≡ copied end copy size (count - done) at (to + size * done) image
+  unfolding copied
+  copied_on h e k =
+      let left : count - done ≡ suc (count - (done + 1)) = omega arith in
+      let place : to + size * done + size ≡ to + size * (done + 1) = rw (add-one done, mul-suc size done) (omega arith) in
+      rw (left, e, k, ← place) refl
+
+  pub copied_end : count ≤ done → image ≡ copied end copy size (count - done) at (to + size * done) image
+  unfolding copied
+  copied_end h = let none : count - done ≡ 0 = omega arith in rw none refl
+
+-- Parts that a step stores as their definitions say.
+module _ (part : Part) (file : List ℕ) where
+  pub many_steps : {pre : ℕ → MutBor (List ℕ) → ℕ → Type 0} {post : ℕ → MutBor (List ℕ) → ℕ → ℕ → MutBor (List ℕ) → Type 0} → ((at to : ℕ) (image : MutBor (List ℕ)) → part.room file at to → pre at image to)
+      → IsCopy post (part.end file) (part.copy file) → (k at to : ℕ) → ManyRoom part k file at to → StepsRoom pre post part.size k at to
+  unfolding ManyRoom StepsRoom
+  many_steps may says zero at to room = tt
+  many_steps may says (suc k) at to room =
+      (λ image. may at to image room.0, λ image after end told. let e = (says at to end image after told).0 in rw e (many_steps may says k (part.end file at) (to + part.size) room.1))
+
+  pub many_copied : (k at to : ℕ) (image : List ℕ) → copied (part.end file) (part.copy file) part.size k at to image ≡ copy_many part k file at to image
+  unfolding copied copy_many
+  many_copied zero at to image = refl
+  many_copied (suc k) at to image = many_copied k (part.end file at) (to + part.size) (part.copy file at to image)

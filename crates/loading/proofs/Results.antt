@@ -1,11 +1,11 @@
 -- Written by .ci/contracts --write: for each function of src/lib.rt, that any two results that its contract allows are the same.
-use Rattle.std.specs.Prelude.{List, ℕ, ◌≡◌ as ◌is◌, ◌≡◌}
-use Rattle.reading.specs.declared.Seen.{Seen}
+use Rattle.std.specs.Prelude.{List, ℕ, Result, ◌≡◌ as ◌is◌, ◌≡◌}
+use Rattle.reading.specs.declared.Form.{Form}
 use Rattle.laws.specs.Once.{equal_once}
 use Rattle.reading.specs.Reading.{parse, seen}
 use Rattle.loading.specs.Storing.{after_reading}
 
-pub load_once : (file image : List ℕ) (r r₂ : Seen) (image' image'' : List ℕ)
+pub load_once : (file image : List ℕ) (r r₂ : Result ℕ Form) (image' image'' : List ℕ)
     → ((r ≡ seen (parse file)) × (image' ≡ after_reading (parse file) image))
     → ((r₂ ≡ seen (parse file)) × (image'' ≡ after_reading (parse file) image))
     → (r is r₂) × (image' is image'')

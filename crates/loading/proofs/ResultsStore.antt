@@ -15,17 +15,17 @@ pub store_route_once : (file : List ℕ) (at : ℕ) (image : List ℕ) (to r r�
     → (r is r₂) × (image' is image'')
 store_route_once file at image to r r₂ image' image'' by_one by_other = (equal_once _ _ _ by_one.0 by_other.0, equal_once _ _ _ by_one.1 by_other.1)
 
-pub store_routes_once : (file : List ℕ) (from : ℕ) (image image' image'' : List ℕ)
-    → (image' ≡ copy_routes file from image)
-    → (image'' ≡ copy_routes file from image)
-    → image' is image''
-store_routes_once file from image image' image'' by_one by_other = equal_once _ _ _ by_one by_other
-
 pub store_entry_once : (file : List ℕ) (at : ℕ) (image : List ℕ) (to r r₂ : ℕ) (image' image'' : List ℕ)
     → ((r ≡ entry_end file at) × (image' ≡ copy_entry file at to image))
     → ((r₂ ≡ entry_end file at) × (image'' ≡ copy_entry file at to image))
     → (r is r₂) × (image' is image'')
 store_entry_once file at image to r r₂ image' image'' by_one by_other = (equal_once _ _ _ by_one.0 by_other.0, equal_once _ _ _ by_one.1 by_other.1)
+
+pub store_routes_once : (file : List ℕ) (from : ℕ) (image image' image'' : List ℕ)
+    → (image' ≡ copy_routes file from image)
+    → (image'' ≡ copy_routes file from image)
+    → image' is image''
+store_routes_once file from image image' image'' by_one by_other = equal_once _ _ _ by_one by_other
 
 pub store_entries_once : (file : List ℕ) (from : ℕ) (image image' image'' : List ℕ)
     → (image' ≡ copy_entries file from image)

@@ -1,5 +1,6 @@
 -- The whole of reading in the steps that the code takes: a section is scanned, then stored, and what is stored tells the next one its counts
 -- and kinds. Assumes nothing.
+use Rattle.std.specs.Prelude.{Err, Ok, Result}
 use mathlib.Core.Path.{◌≡◌, refl, sym, ap, ◌∙◌}
 use mathlib.Core.List.{List, ◌++◌}
 use Prim.Native.Nat.{ℕ, ◌≤◌, ◌<◌}
@@ -14,8 +15,6 @@ use Rattle.plan.specs.Image.{image_of, plan_of}
 use Rattle.plan.proofs.Shown.{tracks_shown, signals_shown}
 use Rattle.reading.specs.declared.Form.{Form}
 use Rattle.reading.specs.declared.Form.TheVariants.{LeftOver}
-use Rattle.reading.specs.declared.Seen.{Seen}
-use Rattle.reading.specs.declared.Seen.TheVariants.{Next, Refused}
 use Rattle.reading.specs.Reading.{Got, form, got, nothing_left, rising_list, track_section, signal_section, route_section, entry_section, sections, parse, seen, scanned, and_then, done}
 use Rattle.reading.proofs.Sound.{sound_got}
 use Rattle.reading.proofs.Sections.{track_section_sound, rising_list_sound, route_section_sound, entry_section_sound}
@@ -53,22 +52,22 @@ pub record Signals (file : List ℕ) (p q : ℕ) (image : List ℕ) : Type 0 whe
 
 module _ (file : List ℕ) where
   -- a refusal of what was read in part is the file's, and leaves the memory
-  pub refuses : {r : Seen} {f : Form} (old : List ℕ) → r ≡ Refused f → r ≡ scanned sections file 0 → (r ≡ seen (parse file)) × (old ≡ after_reading (parse file) old)
+  pub refuses : {x r : Result ℕ Form} {f : Form} (old : List ℕ) → x ≡ Err f → r ≡ Err f → r ≡ scanned sections file 0 → (x ≡ seen (parse file)) × (old ≡ after_reading (parse file) old)
   unfolding scanned parse after_reading
-  refuses {r} {f} old e told = go (sections 0 file) (sym e ∙ told)
+  refuses {x} {f} old same e told = go (sections 0 file) (sym e ∙ told)
     where
-      go : (g : Got Plan) → Refused f ≡ seen g → (r ≡ seen (nothing_left g)) × (old ≡ after_reading (nothing_left g) old)
-      go (form x) z = (e ∙ z, refl)
+      go : (g : Got Plan) → Err f ≡ seen g → (x ≡ seen (nothing_left g)) × (old ≡ after_reading (nothing_left g) old)
+      go (form y) z = (same ∙ z, refl)
       go (got a at rest) z = never (cc)
 
   -- 1. Tracks.
 
-  module _ {r : Seen} (told : r ≡ scanned track_section file 0) where
-    pub tracks_refused : {f : Form} → r ≡ Refused f → r ≡ scanned sections file 0
+  module _ {r : Result ℕ Form} (told : r ≡ scanned track_section file 0) where
+    pub tracks_refused : {f : Form} → r ≡ Err f → r ≡ scanned sections file 0
     unfolding sections
     tracks_refused e = then_stop track_section _ file 0 told e
 
-    module _ {p : ℕ} (e : r ≡ Next p) where
+    module _ {p : ℕ} (e : r ≡ Ok p) where
       read : (tracks : List Track) × (track_section 0 (drop 0 file) ≡ got tracks p (drop p file))
       read = passed track_section file 0 told tracks_steady e
 
@@ -82,18 +81,18 @@ module _ (file : List ℕ) where
 
   -- 2. Signals.
 
-  module _ {p : ℕ} {image : List ℕ} (t : Tracks file p image) {r : Seen} {n : ℕ} (z : n ≡ length (plan_of image).tracks) (found : r ≡ scanned (rising_list n most_signals) file p) where
+  module _ {p : ℕ} {image : List ℕ} (t : Tracks file p image) {r : Result ℕ Form} {n : ℕ} (z : n ≡ length (plan_of image).tracks) (found : r ≡ scanned (rising_list n most_signals) file p) where
     signals_told : r ≡ scanned (signal_section t.tracks) file p
     unfolding signal_section
     signals_told =
         let k : n ≡ length t.tracks = z ∙ ap (λ (i : List ℕ). length (plan_of i).tracks) t.holds ∙ ap length (shows_tracks t.tracks t.few) in
         rw k at found
 
-    pub signals_refused : {f : Form} → r ≡ Refused f → r ≡ scanned sections file 0
+    pub signals_refused : {f : Form} → r ≡ Err f → r ≡ scanned sections file 0
     unfolding sections
     signals_refused e = then_stop (signal_section t.tracks) _ file p signals_told e ∙ then_passed track_section _ file 0 t.reads
 
-    module _ {q : ℕ} (e : r ≡ Next q) where
+    module _ {q : ℕ} (e : r ≡ Ok q) where
       signals_here : (signals : List ℕ) × (signal_section t.tracks p (drop p file) ≡ got signals q (drop q file))
           × (length signals ≤ most_signals) × (drop p file ≡ list_file signals ++ drop q file)
       unfolding signal_section
@@ -125,17 +124,17 @@ module _ (file : List ℕ) where
     shown_signals : (plan_of image).signals ≡ t.signals
     shown_signals = ap (λ (i : List ℕ). (plan_of i).signals) t.holds ∙ (shows_both t.tracks t.signals t.few_tracks t.few).1
 
-    module _ {r : Seen} (found : r ≡ scanned (route_section (plan_of image).tracks (length (plan_of image).signals)) file q) where
+    module _ {r : Result ℕ Form} (found : r ≡ scanned (route_section (plan_of image).tracks (length (plan_of image).signals)) file q) where
       routes_told : r ≡ scanned (route_section t.tracks (length t.signals)) file q
       routes_told = rw (shown_tracks, shown_signals) at found
 
-      pub routes_refused : {f : Form} → r ≡ Refused f → r ≡ scanned sections file 0
+      pub routes_refused : {f : Form} → r ≡ Err f → r ≡ scanned sections file 0
       unfolding sections
       routes_refused e =
           then_stop (route_section t.tracks (length t.signals)) _ file q routes_told e ∙ then_passed (signal_section t.tracks) _ file p t.reads
           ∙ then_passed track_section _ file 0 t.tracks_read
 
-      module _ {u : ℕ} (e : r ≡ Next u) where
+      module _ {u : ℕ} (e : r ≡ Ok u) where
         routes_here : (routes : List Route) × (route_section t.tracks (length t.signals) q (drop q file) ≡ got routes u (drop u file))
             × Within 0 most_routes (ReadableRoute t.tracks (length t.signals)) routes × (drop q file ≡ counted_file route_file routes ++ drop u file)
         routes_here =
@@ -148,7 +147,7 @@ module _ (file : List ℕ) where
 
         -- 4. Entries, and the end.
 
-        module _ {n : ℕ} (z : n ≡ length (plan_of image).tracks) {a : Seen} (last : a ≡ scanned (entry_section n) file u) where
+        module _ {n : ℕ} (z : n ≡ length (plan_of image).tracks) {a : Result ℕ Form} (last : a ≡ scanned (entry_section n) file u) where
           entries_told : a ≡ scanned (entry_section (length t.tracks)) file u
           entries_told = let k : n ≡ length t.tracks = z ∙ ap length shown_tracks in rw k at last
 
@@ -158,7 +157,7 @@ module _ (file : List ℕ) where
               then_last (entry_section (length t.tracks)) _ file u entries_told ∙ then_passed (route_section t.tracks (length t.signals)) _ file q routes_here.1
               ∙ then_passed (signal_section t.tracks) _ file p t.reads ∙ then_passed track_section _ file 0 t.tracks_read
 
-          module _ {v : ℕ} (e' : a ≡ Next v) where
+          module _ {v : ℕ} (e' : a ≡ Ok v) where
             entries_here : (entries : List Entry) × (entry_section (length t.tracks) u (drop u file) ≡ got entries v (drop v file))
                 × Within 0 most_entries (ReadableEntry (length t.tracks)) entries × (drop u file ≡ counted_file entry_file entries ++ drop v file)
             entries_here =
@@ -176,13 +175,13 @@ module _ (file : List ℕ) where
             unfolding sections and_then done plan
             all_read = rw (t.tracks_read, t.reads, routes_here.1, entries_here.1)
 
-            pub left_over_lem : (old : List ℕ) → v < length file → (Refused (LeftOver v) ≡ seen (parse file)) × (old ≡ after_reading (parse file) old)
+            pub left_over_lem : (old : List ℕ) → v < length file → (Err (LeftOver v) ≡ seen (parse file)) × (old ≡ after_reading (parse file) old)
             unfolding parse after_reading
             left_over_lem old h = rw (all_read, drop-cons file v 0 h) (refl, refl)
 
             -- what is stored at last is the plan's image
             pub whole : (old : List ℕ) {image₃ image₄ : List ℕ} → length file ≤ v → image₃ ≡ copy_routes file q image → image₄ ≡ copy_entries file u image₃ →
-                (Next v ≡ seen (parse file)) × (image₄ ≡ after_reading (parse file) old)
+                (Ok v ≡ seen (parse file)) × (image₄ ≡ after_reading (parse file) old)
             unfolding parse after_reading plan
             whole old {image₃} {image₄} h y₃ y₄ =
                 let rs = routes_here in

@@ -1,5 +1,6 @@
 -- Storing a file that was read: each part of it is copied to its place in the image. What a copy does to any bytes, right or not.
-use Rattle.std.specs.Prelude.{ℕ, zero, suc, ◌+◌, ◌*◌, ◌<◌, ◌≤◌, List, length, get_or, take, drop, set}
+use Rattle.std.specs.Borrow.{MutBor}
+use Rattle.std.specs.Prelude.{◌≡◌, ℕ, zero, suc, ◌+◌, ◌*◌, ◌<◌, ◌≤◌, List, length, get_or, take, drop, set}
 use Rattle.std.proofs.lemmas.List.Edits.{sets}
 use Rattle.plan.specs.Limits.{release_size, path_at, clear_at, normal_at, reverse_at, releases_at, route_size, entry_clear_at, entry_size, routes_at, entries_at, image_size}
 use Rattle.plan.specs.Records.{Plan}
@@ -104,3 +105,16 @@ EntriesRoom file at = CountedRoom entry_part file at entries_at
 unfoldable pub after_reading : Got Plan → List ℕ → List ℕ
 after_reading (form f) old = old
 after_reading (got p at rest) old = image_of p
+
+-- What a step that stores a part requires and does, where the code is given it: at each turn it may be called, and its answers are those of definitions.
+unfoldable pub StepsRoom : (ℕ → MutBor (List ℕ) → ℕ → Type 0) → (ℕ → MutBor (List ℕ) → ℕ → ℕ → MutBor (List ℕ) → Type 0) → ℕ → ℕ → ℕ → ℕ → Type 0
+StepsRoom pre post size zero at to = Unit
+StepsRoom pre post size (suc k) at to =
+    ((image : MutBor (List ℕ)) → pre at image to) × ((image after : MutBor (List ℕ)) (end : ℕ) → post at image to end after → StepsRoom pre post size k end (to + size))
+
+abbrev pub IsCopy : (ℕ → MutBor (List ℕ) → ℕ → ℕ → MutBor (List ℕ) → Type 0) → (ℕ → ℕ) → (ℕ → ℕ → List ℕ → List ℕ) → Type 0
+IsCopy post end copy = (at to next : ℕ) (image after : MutBor (List ℕ)) → post at image to next after → (next ≡ end at) × (after.now ≡ copy at to image.now)
+
+unfoldable pub copied : (ℕ → ℕ) → (ℕ → ℕ → List ℕ → List ℕ) → ℕ → ℕ → ℕ → ℕ → List ℕ → List ℕ
+copied end copy size zero at to image = image
+copied end copy size (suc k) at to image = copied end copy size k (end at) (to + size) (copy at to image)

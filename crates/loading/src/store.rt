@@ -1,23 +1,21 @@
 // Storing a file that was read: each part is copied to its place in the image. Nothing is tested here; what reading found is required.
-ghost use Rattle.std.specs.Prelude.{◌≡◌};
-ghost use Rattle.loading.specs.Storing.{list_end, copy_list, route_end, copy_route, copy_routes, entry_end, copy_entry, copy_entries, ListRoom, RouteRoom, RoutesRoom, EntryRoom, EntriesRoom};
+ghost use Rattle.plan.specs.Limits.{image_size};
+ghost use Rattle.std.specs.Prelude.{◌≡◌, ℕ, ◌+◌, ◌*◌, ◌<◌, ◌≤◌, length, get_or, set, List};
+ghost use Rattle.loading.specs.Storing.{list_end, copy_list, route_end, copy_route, copy_routes, entry_end, copy_entry, copy_entries, IsCopy, StepsRoom, copied, ListRoom, RouteRoom, RoutesRoom, EntryRoom, EntriesRoom};
 
-use lists::wide;
 use plan::limits::{
     CLEAR_AT, ENTRIES_AT, ENTRY_CLEAR_AT, ENTRY_SIZE, IMAGE, NORMAL_AT, PATH_AT, RELEASE_SIZE,
     RELEASES_AT, REVERSE_AT, ROUTE_SIZE, ROUTES_AT,
 };
 
-// Things of one size with their count before them: hands back where they end.
+// Things of one size with their count before them: hands back where they end. Copied one by one, as `lists::put_bytes` does and says why.
 pub fn store_list(file: &[u8], at: usize, size: usize, image: &mut [u8; IMAGE], to: usize) -> usize
     requires { ListRoom size file.now at to }
     ensures { (result ≡ list_end size file.now at) × (image.new ≡ copy_list size file.now at to image.old) }
 {
-    let bytes = 1 + size * wide(file[at]);
-    let mut i = 0;
-    while i < bytes {
+    let bytes = 1 + size * usize::from(file[at]);
+    for i in 0..bytes {
         image[to + i] = file[at + i];
-        i += 1;
     }
     at + bytes
 }
@@ -35,22 +33,8 @@ fn store_route(file: &[u8], at: usize, image: &mut [u8; IMAGE], to: usize) -> us
     store_list(file, releases_from, RELEASE_SIZE, image, to + RELEASES_AT)
 }
 
-// Section 3: the routes with their count before them.
-pub fn store_routes(file: &[u8], from: usize, image: &mut [u8; IMAGE])
-    requires { RoutesRoom file.now from }
-    ensures { image.new ≡ copy_routes file.now from image.old }
-{
-    let routes = wide(file[from]);
-    image[ROUTES_AT] = file[from];
-    let mut at = from + 1;
-    let mut i = 0;
-    while i < routes {
-        at = store_route(file, at, image, ROUTES_AT + 1 + ROUTE_SIZE * i);
-        i += 1;
-    }
-}
-
 // An entry, into its record: hands back where it ends.
+#[tactic(auto, unfolding(crate::specs::Storing::entry_end, crate::specs::Storing::copy_entry))]
 fn store_entry(file: &[u8], at: usize, image: &mut [u8; IMAGE], to: usize) -> usize
     requires { EntryRoom file.now at to }
     ensures { (result ≡ entry_end file.now at) × (image.new ≡ copy_entry file.now at to image.old) }
@@ -59,17 +43,44 @@ fn store_entry(file: &[u8], at: usize, image: &mut [u8; IMAGE], to: usize) -> us
     store_list(file, at + 1, 1, image, to + ENTRY_CLEAR_AT)
 }
 
-// Section 4: the entries with their count before them.
+// Parts with their count before them, each into its record: a step stores the one that stands at an offset of the file, and hands back where it ends.
+fn store_parts<F: Fn(usize, &mut [u8; IMAGE], usize) -> usize>(
+    file: &[u8],
+    from: usize,
+    image: &mut [u8; IMAGE],
+    to: usize,
+    size: usize,
+    store: F,
+)
+    requires count { from < length file.now }
+    requires place { to < image_size }
+    requires fits { to + size * 256 ≤ usize.MAX }
+    requires rooms { StepsRoom (F.pre store) (F.post store) size (get_or file.now from 0) (from + 1) (to + 1) }
+    ensures { (end : ℕ → ℕ) (copy : ℕ → ℕ → List ℕ → List ℕ) → IsCopy (F.post store) end copy → image.new ≡ copied end copy size (get_or file.now from 0) (from + 1) (to + 1) (set image.old to (get_or file.now from 0)) }
+{
+    image[to] = file[from];
+    let mut at = from + 1;
+    for i in 0..usize::from(file[from]) {
+        at = store(at, image, to + 1 + size * i);
+    }
+}
+
+// Section 3: the routes.
+pub fn store_routes(file: &[u8], from: usize, image: &mut [u8; IMAGE])
+    requires { RoutesRoom file.now from }
+    ensures { image.new ≡ copy_routes file.now from image.old }
+{
+    store_parts(file, from, image, ROUTES_AT, ROUTE_SIZE, |at, image, to| {
+        store_route(file, at, image, to)
+    });
+}
+
+// Section 4: the entries.
 pub fn store_entries(file: &[u8], from: usize, image: &mut [u8; IMAGE])
     requires { EntriesRoom file.now from }
     ensures { image.new ≡ copy_entries file.now from image.old }
 {
-    let entries = wide(file[from]);
-    image[ENTRIES_AT] = file[from];
-    let mut at = from + 1;
-    let mut i = 0;
-    while i < entries {
-        at = store_entry(file, at, image, ENTRIES_AT + 1 + ENTRY_SIZE * i);
-        i += 1;
-    }
+    store_parts(file, from, image, ENTRIES_AT, ENTRY_SIZE, |at, image, to| {
+        store_entry(file, at, image, to)
+    });
 }

@@ -1,5 +1,5 @@
 -- Written by .ci/contracts --write: for each function of src/image.rt, that any two results that its contract allows are the same.
-use Rattle.std.specs.Prelude.{List, ℕ, ◌≡◌ as ◌is◌, Bool, ◌≡◌, length, []}
+use Rattle.std.specs.Prelude.{List, ℕ, ◌≡◌ as ◌is◌, Bool, ◌≡◌, length}
 use Rattle.laws.specs.Once.{equal_once}
 use Rattle.plan.specs.declared.Track.{Track}
 use Rattle.plan.specs.Kinds.{is_point}
@@ -25,12 +25,6 @@ pub pairs_at_once : (image : List ℕ) (at most : ℕ) (r r₂ : List ℕ)
     → (r₂ ≡ joined release_file (releases_in image at most))
     → r is r₂
 pairs_at_once image at most r r₂ by_one by_other = equal_once _ _ _ by_one by_other
-
-pub none_once : (image r r₂ : List ℕ)
-    → (r ≡ [])
-    → (r₂ ≡ [])
-    → r is r₂
-none_once image r r₂ by_one by_other = equal_once _ _ _ by_one by_other
 
 pub track_of_once : (image : List ℕ) (track : ℕ) (r r₂ : Track)
     → (r ≡ track_of (plan_of image) track)

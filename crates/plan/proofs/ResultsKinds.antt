@@ -1,50 +1,65 @@
 -- Written by .ci/contracts --write: for each function of src/kinds.rt, that any two results that its contract allows are the same.
+use Rattle.std.specs.Prelude.{ℕ, Result, ◌≡◌ as ◌is◌, Bool, ◌≡◌, ◌≤◌, MatchResult}
+use Rattle.plan.specs.declared.Kind.{Kind}
+use Rattle.plan.specs.declared.NoKind.{NoKind}
+use Rattle.plan.proofs.Codes.{kind_once}
 use Rattle.plan.specs.declared.Track.{Track}
-use Rattle.std.specs.Prelude.{Bool, ◌≡◌ as ◌is◌, ℕ, ◌≡◌}
 use Rattle.laws.specs.Once.{equal_once}
-use Rattle.plan.specs.Kinds.{uses, plain, exit, forks, legged, point, out, leg, no_track}
+use Rattle.plan.specs.Kinds.{kinds, code_of, of_kind, uses, plain, exit, forks, legged, point, out, leg, no_track}
 
-pub plain_once : (t : Track) (r r₂ : Bool)
-    → (r ≡ plain t)
-    → (r₂ ≡ plain t)
+pub kind_try_from_once : (code : ℕ) (r r₂ : Result Kind NoKind)
+    → (MatchResult r (λ kind. code_of kind ≡ code) (λ _. kinds ≤ code))
+    → (MatchResult r₂ (λ kind. code_of kind ≡ code) (λ _. kinds ≤ code))
     → r is r₂
-plain_once t r r₂ by_one by_other = equal_once _ _ _ by_one by_other
+kind_try_from_once code r r₂ by_one by_other = kind_once _ _ _ by_one by_other
 
-pub exit_once : (t : Track) (r r₂ : Bool)
-    → (r ≡ exit t)
-    → (r₂ ≡ exit t)
+pub track_is_once : (self : Track) (kind : Kind) (r r₂ : Bool)
+    → (r ≡ of_kind self kind)
+    → (r₂ ≡ of_kind self kind)
     → r is r₂
-exit_once t r r₂ by_one by_other = equal_once _ _ _ by_one by_other
+track_is_once self kind r r₂ by_one by_other = equal_once _ _ _ by_one by_other
 
-pub forks_once : (t : Track) (r r₂ : Bool)
-    → (r ≡ forks t)
-    → (r₂ ≡ forks t)
+pub track_plain_once : (self : Track) (r r₂ : Bool)
+    → (r ≡ plain self)
+    → (r₂ ≡ plain self)
     → r is r₂
-forks_once t r r₂ by_one by_other = equal_once _ _ _ by_one by_other
+track_plain_once self r r₂ by_one by_other = equal_once _ _ _ by_one by_other
 
-pub legged_once : (t : Track) (r r₂ : Bool)
-    → (r ≡ legged t)
-    → (r₂ ≡ legged t)
+pub track_exit_once : (self : Track) (r r₂ : Bool)
+    → (r ≡ exit self)
+    → (r₂ ≡ exit self)
     → r is r₂
-legged_once t r r₂ by_one by_other = equal_once _ _ _ by_one by_other
+track_exit_once self r r₂ by_one by_other = equal_once _ _ _ by_one by_other
 
-pub point_once : (t : Track) (r r₂ : Bool)
-    → (r ≡ point t)
-    → (r₂ ≡ point t)
+pub track_forks_once : (self : Track) (r r₂ : Bool)
+    → (r ≡ forks self)
+    → (r₂ ≡ forks self)
     → r is r₂
-point_once t r r₂ by_one by_other = equal_once _ _ _ by_one by_other
+track_forks_once self r r₂ by_one by_other = equal_once _ _ _ by_one by_other
 
-pub out_once : (t : Track) (lie : Bool) (r r₂ : ℕ)
-    → (r ≡ out t lie)
-    → (r₂ ≡ out t lie)
+pub track_legged_once : (self : Track) (r r₂ : Bool)
+    → (r ≡ legged self)
+    → (r₂ ≡ legged self)
     → r is r₂
-out_once t lie r r₂ by_one by_other = equal_once _ _ _ by_one by_other
+track_legged_once self r r₂ by_one by_other = equal_once _ _ _ by_one by_other
 
-pub leg_once : (t : Track) (lie : Bool) (r r₂ : ℕ)
-    → (r ≡ leg t lie)
-    → (r₂ ≡ leg t lie)
+pub track_point_once : (self : Track) (r r₂ : Bool)
+    → (r ≡ point self)
+    → (r₂ ≡ point self)
     → r is r₂
-leg_once t lie r r₂ by_one by_other = equal_once _ _ _ by_one by_other
+track_point_once self r r₂ by_one by_other = equal_once _ _ _ by_one by_other
+
+pub track_out_once : (self : Track) (lie : Bool) (r r₂ : ℕ)
+    → (r ≡ out self lie)
+    → (r₂ ≡ out self lie)
+    → r is r₂
+track_out_once self lie r r₂ by_one by_other = equal_once _ _ _ by_one by_other
+
+pub track_leg_once : (self : Track) (lie : Bool) (r r₂ : ℕ)
+    → (r ≡ leg self lie)
+    → (r₂ ≡ leg self lie)
+    → r is r₂
+track_leg_once self lie r r₂ by_one by_other = equal_once _ _ _ by_one by_other
 
 pub uses_once : (kind r r₂ : ℕ)
     → (r ≡ uses kind)

@@ -4,7 +4,7 @@ use mathlib.Core.Path.{◌≡◌, refl, sym, ap, ◌∙◌}
 use mathlib.Core.Logic.{◌⊎◌, inl, inr, ⊎_elim}
 use mathlib.Core.List.{List, []}
 use Prim.Native.Nat.{ℕ, zero, suc, ◌+◌, ◌*◌, ◌<◌, ◌≤◌, ◌-◌}
-use native.Mathlib.Nat.{min-eq_left, min-eq_right, min-le_left, mul-zero, mul-suc, mul-le-mul_left}
+use native.Mathlib.Nat.{min-le_left, mul-zero, mul-suc, mul-le-mul_left}
 use native.Mathlib.Omega.{arith}
 use lib.ListN.{length, get_or, take, drop, length-take, get_or-eq_default}
 use lib.Seq.{drop-cons, drop-drop, take-add}
@@ -15,9 +15,9 @@ use Rattle.laws.specs.Tests.{split}
 use Rattle.laws.specs.Tables.{tab, length_tab, get_or_tab, tab_cong}
 use Rattle.laws.specs.Lists.{joined}
 use Rattle.plan.specs.declared.Track.{Track}
-use Rattle.plan.specs.Limits.{most_tracks, most_signals, most_routes, most_entries, track_size, release_size, route_size, entry_size, tracks_at, signals_at, routes_at, entries_at, image_size}
+use Rattle.plan.specs.Limits.{most_tracks, most_signals, most_routes, most_entries, most_path, most_clear, most_points, most_releases, path_at, clear_at, normal_at, reverse_at, releases_at, entry_clear_at, track_size, release_size, route_size, entry_size, tracks_at, signals_at, routes_at, entries_at, image_size}
 use Rattle.plan.specs.Kinds.{point, is_point, no_track}
-use Rattle.plan.specs.Records.{Plan, Route, no_route, no_entry, track_of, route_of, entry_of}
+use Rattle.plan.specs.Records.{Plan, Route, Entry, no_route, no_entry, track_of, route_of, entry_of}
 use Rattle.plan.specs.File.{track_file, release_file}
 use Rattle.plan.specs.Image.{count_in, list_in, things_in, track_in, release_in, releases_in, route_in, entry_in, tracks_in, signals_in, plan_of, route_list}
 
@@ -26,14 +26,6 @@ module _ (image : List ℕ) (at most : ℕ) where
   pub count_most : count_in image at most ≤ most
   unfolding count_in
   count_most = min-le_left most (get_or image at 0)
-
-  pub count_beyond : {n : ℕ} → n ≡ get_or image at 0 → most ≤ n → most ≡ count_in image at most
-  unfolding count_in
-  count_beyond e h = sym (min-eq_left (rw e at h))
-
-  pub count_within : {n : ℕ} → n ≡ get_or image at 0 → n < most → n ≡ count_in image at most
-  unfolding count_in
-  count_within {n} e h = let k : get_or image at 0 ≤ most = omega arith in e ∙ sym (min-eq_right k)
 
 -- Things of one size after their count.
 module _ {A : Type 0} (thing : List ℕ → ℕ → A) (size : ℕ) (image : List ℕ) (at most : ℕ) where
@@ -44,11 +36,6 @@ module _ {A : Type 0} (thing : List ℕ → ℕ → A) (size : ℕ) (image : Lis
   pub things_at : (i : ℕ) (none : A) → i < count_in image at most → get_or (things_in thing size image at most) i none ≡ thing image (at + 1 + size * i)
   unfolding things_in
   things_at i none h = get_or_tab (count_in image at most) (λ i. thing image (at + 1 + size * i)) i none h
-
--- A list, as the part of the image that the code takes.
-pub list_part_lem : (image : List ℕ) (at most : ℕ) {n : ℕ} → n ≡ count_in image at most → take (at + 1 + n - (at + 1)) (drop (at + 1) image) ≡ list_in image at most
-unfolding list_in
-list_part_lem image at most {n} e = let z : at + 1 + n - (at + 1) ≡ n = omega arith in rw (z, e)
 
 -- Rows of one size, as they stand, are the files of what the image shows there, where that is so of one row.
 module _ {A : Type 0} (thing : List ℕ → ℕ → A) (size : ℕ) (file : A → List ℕ) (image : List ℕ)
@@ -173,6 +160,38 @@ route_list_lem image r at most pick e f = ⊎_elim (λ h. route_list_at image r 
     decide : (i n : ℕ) → (i < n) ⊎ (n ≤ i)
     decide i n = elim (split (ltb i n)) [ inl w ↦ inl (ltb-true i n w) | inr w ↦ inr (ltb-false i n w) ]
 
+-- The lists of a route and of an entry, each at its offset; beyond the count there is none.
+module _ (image : List ℕ) (r : ℕ) where
+  pub path_shown : route_list image r path_at most_path ≡ (route_of (plan_of image) r).path
+  unfolding route_in
+  path_shown = route_list_lem image r path_at most_path (λ (route : Route). route.path) refl (λ base. refl)
+
+  pub clear_shown : route_list image r clear_at most_clear ≡ (route_of (plan_of image) r).clear
+  unfolding route_in
+  clear_shown = route_list_lem image r clear_at most_clear (λ (route : Route). route.clear) refl (λ base. refl)
+
+  pub normal_shown : route_list image r normal_at most_points ≡ (route_of (plan_of image) r).normal
+  unfolding route_in
+  normal_shown = route_list_lem image r normal_at most_points (λ (route : Route). route.normal) refl (λ base. refl)
+
+  pub reverse_shown : route_list image r reverse_at most_points ≡ (route_of (plan_of image) r).reverse
+  unfolding route_in
+  reverse_shown = route_list_lem image r reverse_at most_points (λ (route : Route). route.reverse) refl (λ base. refl)
+
+  pub releases_shown : r < length (plan_of image).routes
+      → joined release_file (releases_in image (routes_at + 1 + route_size * r + releases_at) most_releases) ≡ joined release_file (route_of (plan_of image) r).releases
+  unfolding route_in
+  releases_shown h = ap (λ (route : Route). joined release_file route.releases) (route_at image r h)
+
+  pub releases_none : length (plan_of image).routes ≤ r → [] ≡ joined release_file (route_of (plan_of image) r).releases
+  unfolding joined
+  releases_none h = ap (λ (route : Route). joined release_file route.releases) (route_beyond image r h)
+
+  pub entry_shown : r < length (plan_of image).entries
+      → list_in image (entries_at + 1 + entry_size * r + entry_clear_at) most_clear ≡ (entry_of (plan_of image) r).clear
+  unfolding entry_in
+  entry_shown h = ap (λ (entry : Entry). entry.clear) (entry_at image r h)
+
 -- A point is named by its track.
 pub point_named : (p : Plan) (u : ℕ) {t : Track} {b : Bool} → t ≡ track_of p u → b ≡ point t → b ≡ is_point p.tracks u
 unfolding track_of is_point
@@ -182,3 +201,6 @@ point_named p u e h = h ∙ rw e
 pub signals_most : (image : List ℕ) → length (plan_of image).signals ≤ most_signals
 unfolding plan_of signals_in list_in
 signals_most image = rw (length-take (count_in image signals_at most_signals) (drop (signals_at + 1) image)) (omega (arith, count_most image signals_at most_signals))
+
+-- What the functions of src/image.rt are proved by.
+pub ruleset shown = (count_most, pairs_part, tracks_part, tracks_count, routes_count, entries_count, homes_list, tracks_most, routes_most, entries_most, track_beyond, track_at_lem, route_beyond, route_at, entry_beyond, entry_at, route_list_none, route_list_at, path_shown, clear_shown, normal_shown, reverse_shown, releases_shown, releases_none, entry_shown, point_named)

@@ -2,6 +2,8 @@
 -- `Track` is the code's own struct (src/lib.rt).
 use Rattle.std.specs.Prelude.{ℕ, ◌≡◌, Bool, cond, ◌&&◌, ◌||◌, ◌⊎◌, List, get_or, eqb, ltb}
 use Rattle.plan.specs.declared.Track.{Track}
+use Rattle.plan.specs.declared.Kind.{Kind}
+use Rattle.plan.specs.declared.Kind.TheVariants.{Plain as PlainKind, Facing as FacingKind, Trailing as TrailingKind, Exit as ExitKind}
 
 -- The codes, and how many there are.
 
@@ -20,6 +22,13 @@ exit_kind = 3
 abbrev pub kinds : ℕ
 kinds = 4
 
+-- the code of a kind, as the code of the box names it
+abbrev pub code_of : Kind → ℕ
+code_of PlainKind = plain_kind
+code_of FacingKind = facing_kind
+code_of TrailingKind = trailing_kind
+code_of ExitKind = exit_kind
+
 -- how many of its three numbers a kind uses: a plain track its next; a facing point its normal and its reverse way out; a trailing point its next
 -- and its normal and its reverse leg; an exit none
 unfoldable pub uses : ℕ → ℕ
@@ -28,6 +37,10 @@ uses kind = cond (eqb kind plain_kind) 1 (cond (eqb kind facing_kind) 2 (cond (e
 -- the i-th number names a track where the kind uses it, and else is 0
 unfoldable pub limit_of : ℕ → ℕ → ℕ → ℕ
 limit_of tracks kind i = cond (ltb i (uses kind)) tracks 1
+
+-- a track is of a kind
+abbrev pub of_kind : Track → Kind → Bool
+of_kind t kind = eqb t.kind (code_of kind)
 
 -- What a track is. A lie is normal (false) or reverse (true).
 module _ (t : Track) where

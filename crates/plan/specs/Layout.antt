@@ -1,8 +1,7 @@
 -- How the tracks of a plan lie: what leads where, and where the signals stand, as tests and as sentences of the same names.
-use Rattle.std.specs.Prelude.{ℕ, ◌<◌, ◌≡◌, Bool, true, false, not, ◌&&◌, ◌||◌, length, eqb, ltb}
+use Rattle.std.specs.Prelude.{ℕ, ◌<◌, ◌≡◌, Bool, true, false, not, ◌&&◌, ◌||◌, length, eqb, ltb, Option}
 use Rattle.laws.specs.Lists.{has}
 use Rattle.laws.specs.Search.{lowest}
-use Rattle.laws.specs.declared.Found.{Found}
 use Rattle.plan.specs.Kinds.{exit, out, Exit}
 use Rattle.plan.specs.Records.{Plan, track_of, home_of}
 
@@ -29,5 +28,5 @@ module _ (p : Plan) where
   StandsAt u s = (s < length p.signals) × (home_of p s ≡ u)
 
   -- the signal at a track's end
-  unfoldable pub signal_at : ℕ → Found
+  unfoldable pub signal_at : ℕ → Option ℕ
   signal_at u = lowest (length p.signals) (λ s. eqb (home_of p s) u)

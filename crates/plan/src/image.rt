@@ -1,5 +1,7 @@
 // What the plan in memory shows, of any image whatever: the rooms above read a plan through these alone and know nothing of its layout.
-ghost use Rattle.std.specs.Prelude.{◌≡◌, ◌+◌, ◌*◌, ◌<◌, ◌≤◌, length, []};
+#![tactic(auto, using(crate::proofs::View::shown), unfolding(crate::specs::Image::count_in, crate::specs::Image::list_in, crate::specs::Image::track_in, crate::specs::Image::route_in, crate::specs::Image::entry_in))]
+
+ghost use Rattle.std.specs.Prelude.{◌≡◌, ◌+◌, ◌*◌, ◌<◌, ◌≤◌, length};
 ghost use Rattle.plan.specs.Limits.{image_size, release_size, route_size};
 ghost use Rattle.plan.specs.Kinds.{is_point};
 ghost use Rattle.plan.specs.Records.{track_of, route_of, entry_of};
@@ -8,21 +10,19 @@ ghost use Rattle.plan.specs.Image.{count_in, list_in, releases_in, plan_of, rout
 ghost use Rattle.laws.specs.Lists.{joined};
 
 use crate::Track;
-use crate::kinds::{no_track, point};
+use crate::kinds::no_track;
 use crate::limits::{
     CLEAR, CLEAR_AT, ENTRIES, ENTRIES_AT, ENTRY_CLEAR_AT, ENTRY_SIZE, IMAGE, NORMAL_AT, PATH,
     PATH_AT, POINTS, RELEASE_SIZE, RELEASES, RELEASES_AT, REVERSE_AT, ROUTE_SIZE, ROUTES,
     ROUTES_AT, SIGNALS, SIGNALS_AT, TRACK_SIZE, TRACKS, TRACKS_AT,
 };
-use lists::wide;
 
 // A count, or its limit where it is beyond.
 pub fn count_at(image: &[u8; IMAGE], at: usize, most: usize) -> usize
     requires { at < image_size }
     ensures { result ≡ count_in image.now at most }
 {
-    let count = wide(image[at]);
-    if most <= count { most } else { count }
+    most.min(usize::from(image[at]))
 }
 
 // A list after its count.
@@ -30,11 +30,8 @@ pub fn list_at(image: &[u8; IMAGE], at: usize, most: usize) -> &[u8]
     requires { at + 1 + most ≤ image_size }
     ensures { result.now ≡ list_in image.now at most }
 {
-    let count = count_at(image, at, most);
     let start = at + 1;
-    let end = start + count;
-    let bytes = &image[..];
-    &bytes[start..end]
+    &image[start..start + count_at(image, at, most)]
 }
 
 // Pairs after their count.
@@ -42,19 +39,8 @@ fn pairs_at(image: &[u8; IMAGE], at: usize, most: usize) -> &[u8]
     requires { at + 1 + release_size * most ≤ image_size }
     ensures { result.now ≡ joined release_file (releases_in image.now at most) }
 {
-    let count = count_at(image, at, most);
     let start = at + 1;
-    let end = start + RELEASE_SIZE * count;
-    let bytes = &image[..];
-    &bytes[start..end]
-}
-
-// The empty list.
-fn none(image: &[u8; IMAGE]) -> &[u8]
-    ensures { result.now ≡ [] }
-{
-    let bytes = &image[..];
-    &bytes[..0]
+    &image[start..start + RELEASE_SIZE * count_at(image, at, most)]
 }
 
 // A track, or an exit where there is none of that number.
@@ -77,11 +63,8 @@ pub fn track_of(image: &[u8; IMAGE], track: usize) -> Track
 pub fn track_rows(image: &[u8; IMAGE]) -> &[u8]
     ensures { result.now ≡ joined track_file (plan_of image.now).tracks }
 {
-    let count = count_at(image, TRACKS_AT, TRACKS);
     let start = TRACKS_AT + 1;
-    let end = start + TRACK_SIZE * count;
-    let bytes = &image[..];
-    &bytes[start..end]
+    &image[start..start + TRACK_SIZE * tracks(image)]
 }
 
 // How many tracks, signals, routes and entries the plan has.
@@ -94,8 +77,7 @@ pub fn tracks(image: &[u8; IMAGE]) -> usize
 pub fn signals(image: &[u8; IMAGE]) -> usize
     ensures { result ≡ length (plan_of image.now).signals }
 {
-    let found = homes(image);
-    found.len()
+    homes(image).len()
 }
 
 pub fn routes(image: &[u8; IMAGE]) -> usize
@@ -123,7 +105,7 @@ fn route_list(image: &[u8; IMAGE], route: usize, at: usize, most: usize) -> &[u8
     ensures { result.now ≡ route_list image.now route at most }
 {
     if routes(image) <= route {
-        return none(image);
+        return &[];
     }
     list_at(image, ROUTES_AT + 1 + ROUTE_SIZE * route + at, most)
 }
@@ -141,7 +123,7 @@ pub fn start_byte(image: &[u8; IMAGE], route: usize) -> u8
 pub fn start_of(image: &[u8; IMAGE], route: usize) -> usize
     ensures { result ≡ (route_of (plan_of image.now) route).start }
 {
-    wide(start_byte(image, route))
+    usize::from(start_byte(image, route))
 }
 
 pub fn path_of(image: &[u8; IMAGE], route: usize) -> &[u8]
@@ -173,7 +155,7 @@ pub fn releases_of(image: &[u8; IMAGE], route: usize) -> &[u8]
     ensures { result.now ≡ joined release_file (route_of (plan_of image.now) route).releases }
 {
     if routes(image) <= route {
-        return none(image);
+        return &[];
     }
     pairs_at(
         image,
@@ -195,14 +177,14 @@ pub fn entry_byte(image: &[u8; IMAGE], entry: usize) -> u8
 pub fn entry_track(image: &[u8; IMAGE], entry: usize) -> usize
     ensures { result ≡ (entry_of (plan_of image.now) entry).track }
 {
-    wide(entry_byte(image, entry))
+    usize::from(entry_byte(image, entry))
 }
 
 pub fn entry_clear(image: &[u8; IMAGE], entry: usize) -> &[u8]
     ensures { result.now ≡ (entry_of (plan_of image.now) entry).clear }
 {
     if entries(image) <= entry {
-        return none(image);
+        return &[];
     }
     list_at(
         image,
@@ -215,5 +197,5 @@ pub fn entry_clear(image: &[u8; IMAGE], entry: usize) -> &[u8]
 pub fn is_point(image: &[u8; IMAGE], track: usize) -> bool
     ensures { result ≡ is_point (plan_of image.now).tracks track }
 {
-    point(track_of(image, track))
+    track_of(image, track).point()
 }

@@ -1,93 +1,103 @@
 // The kinds of track, as specs/Kinds.antt has them. Nothing else looks at a kind.
-ghost use Rattle.std.specs.Prelude.{◌≡◌};
-ghost use Rattle.plan.specs.Kinds.{uses, plain, exit, forks, legged, point, out, leg, no_track};
+#![tactic(auto, unfolding(crate::specs::Kinds::plain, crate::specs::Kinds::exit, crate::specs::Kinds::forks, crate::specs::Kinds::legged, crate::specs::Kinds::point, crate::specs::Kinds::out, crate::specs::Kinds::leg, crate::specs::Kinds::uses))]
 
-use crate::Track;
-use lists::wide;
+ghost use Rattle.std.specs.Prelude.{◌≡◌, ◌≤◌, MatchResult};
+ghost use Rattle.plan.specs.Kinds.{kinds, code_of, of_kind, uses, plain, exit, forks, legged, point, out, leg, no_track};
 
-// The codes, and how many there are.
-const PLAIN: u8 = 0;
+use crate::{Kind, NoKind, Track};
 
-const FACING: u8 = 1;
-
-const TRAILING: u8 = 2;
-
-const EXIT: u8 = 3;
-
+// How many kinds there are. Their codes are the numbers below.
 pub const KINDS: usize = 4;
 
-pub fn plain(t: Track) -> bool
-    ensures { result ≡ plain t }
-{
-    t.kind == PLAIN
-}
+impl TryFrom<u8> for Kind {
+    type Error = NoKind;
 
-pub fn exit(t: Track) -> bool
-    ensures { result ≡ exit t }
-{
-    t.kind == EXIT
-}
+    ghost try_from_gives = { λ code r. MatchResult r (λ kind. code_of kind ≡ code) (λ _. kinds ≤ code) };
 
-// Whether a track is left by its lie.
-pub fn forks(t: Track) -> bool
-    ensures { result ≡ forks t }
-{
-    t.kind == FACING
-}
-
-// Whether a track is entered by its lie.
-pub fn legged(t: Track) -> bool
-    ensures { result ≡ legged t }
-{
-    t.kind == TRAILING
-}
-
-pub fn point(t: Track) -> bool
-    ensures { result ≡ point t }
-{
-    if forks(t) {
-        return true;
+    fn try_from(code: u8) -> Result<Kind, NoKind> {
+        match code {
+            0 => Ok(Kind::Plain),
+            1 => Ok(Kind::Facing),
+            2 => Ok(Kind::Trailing),
+            3 => Ok(Kind::Exit),
+            _ => Err(NoKind),
+        }
     }
-    legged(t)
 }
 
-// The way out of a track for a lie: false normal, true reverse.
-pub fn out(t: Track, lie: bool) -> usize
-    ensures { result ≡ out t lie }
-{
-    if !forks(t) {
-        return wide(t.first);
+impl Track {
+    // A byte that is no kind's code makes the track one of no kind.
+    fn is(self, kind: Kind) -> bool
+        ensures { result ≡ of_kind self kind }
+    {
+        Kind::try_from(self.kind) == Ok(kind)
     }
-    if lie {
-        return wide(t.second);
-    }
-    wide(t.first)
-}
 
-// The leg of a track for a lie.
-pub fn leg(t: Track, lie: bool) -> usize
-    ensures { result ≡ leg t lie }
-{
-    if lie {
-        return wide(t.third);
+    pub fn plain(self) -> bool
+        ensures { result ≡ plain self }
+    {
+        self.is(Kind::Plain)
     }
-    wide(t.second)
+
+    pub fn exit(self) -> bool
+        ensures { result ≡ exit self }
+    {
+        self.is(Kind::Exit)
+    }
+
+    // Whether a track is left by its lie.
+    pub fn forks(self) -> bool
+        ensures { result ≡ forks self }
+    {
+        self.is(Kind::Facing)
+    }
+
+    // Whether a track is entered by its lie.
+    pub fn legged(self) -> bool
+        ensures { result ≡ legged self }
+    {
+        self.is(Kind::Trailing)
+    }
+
+    pub fn point(self) -> bool
+        ensures { result ≡ point self }
+    {
+        self.forks() || self.legged()
+    }
+
+    // The way out of a track for a lie: false normal, true reverse.
+    pub fn out(self, lie: bool) -> usize
+        ensures { result ≡ out self lie }
+    {
+        if self.forks() && lie {
+            usize::from(self.second)
+        } else {
+            usize::from(self.first)
+        }
+    }
+
+    // The leg of a track for a lie.
+    pub fn leg(self, lie: bool) -> usize
+        ensures { result ≡ leg self lie }
+    {
+        if lie {
+            usize::from(self.third)
+        } else {
+            usize::from(self.second)
+        }
+    }
 }
 
 // How many of its numbers a kind uses.
 pub fn uses(kind: u8) -> usize
     ensures { result ≡ uses kind }
 {
-    if kind == PLAIN {
-        return 1;
+    match Kind::try_from(kind) {
+        Ok(Kind::Plain) => 1,
+        Ok(Kind::Facing) => 2,
+        Ok(Kind::Trailing) => 3,
+        Ok(Kind::Exit) | Err(NoKind) => 0,
     }
-    if kind == FACING {
-        return 2;
-    }
-    if kind == TRAILING {
-        return 3;
-    }
-    0
 }
 
 // What stands for a track that there isn't: an exit.
@@ -95,7 +105,7 @@ pub fn no_track() -> Track
     ensures { result ≡ no_track }
 {
     Track {
-        kind: EXIT,
+        kind: Kind::Exit as u8,
         first: 0,
         second: 0,
         third: 0,

@@ -5,7 +5,20 @@ pub mod image;
 pub mod kinds;
 pub mod limits;
 
-// A track: its kind (kinds.rt) and three numbers. A plain track has its next track; a facing point its normal and its reverse way out; a
+// The kinds of track.
+#[derive(Clone, Copy, PartialEq, Eq)]
+pub enum Kind {
+    Plain,
+    Facing,
+    Trailing,
+    Exit,
+}
+
+// A byte that is the code of no kind: a plan in memory may have any.
+#[derive(Clone, Copy, PartialEq, Eq)]
+pub struct NoKind;
+
+// A track: the code of its kind (kinds.rt) and three numbers. A plain track has its next track; a facing point its normal and its reverse way out; a
 // trailing point its next track, its normal and its reverse leg. What is not used is 0.
 #[derive(Clone, Copy)]
 pub struct Track {

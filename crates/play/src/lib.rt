@@ -9,7 +9,7 @@ ghost use Rattle.events.specs.Decide.{decided};
 ghost use Rattle.events.specs.After.{after};
 
 use act::act;
-use decide::decide;
+use decide::Junction;
 use events::{Answer, Event};
 use plan::limits::{IMAGE, TRACKS};
 use state::cells::CELLS;
@@ -23,7 +23,12 @@ pub fn play(
     requires { Readable (plan_of image.now) }
     ensures { (result ≡ decided (plan_of image.now) (state_in cells.old holds.old) event) × (state_in cells.new holds.new ≡ after (plan_of image.now) (state_in cells.old holds.old) (decided (plan_of image.now) (state_in cells.old holds.old) event)) }
 {
-    let answer = decide(image, cells, holds, event);
+    let answer = Junction {
+        image,
+        cells,
+        holds,
+    }
+    .decide(event);
     act(image, cells, holds, answer);
     answer
 }

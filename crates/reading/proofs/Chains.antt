@@ -1,11 +1,10 @@
 -- Parts that the code reads one after the other. Each part's law is made of the one before it, so that each return of the code is one line. Assumes nothing.
-use mathlib.Core.Path.{◌≡◌, ap, ◌∙◌}
+use Rattle.std.specs.Prelude.{Err, Ok, Result}
+use mathlib.Core.Path.{◌≡◌, sym, ap, ◌∙◌}
 use mathlib.Core.List.{List}
 use Prim.Native.Nat.{ℕ}
 use lib.ListN.{drop}
 use Rattle.reading.specs.declared.Form.{Form}
-use Rattle.reading.specs.declared.Seen.{Seen}
-use Rattle.reading.specs.declared.Seen.TheVariants.{Next, Refused}
 use Rattle.reading.specs.Reading.{Reader, got, and_then, done, scanned}
 use Rattle.reading.proofs.Scanned.{Steady, then_stop, then_step, then_last}
 
@@ -15,27 +14,27 @@ pub record Left (B : Type 0) : Type 1 where
   pub rest : Read → Reader B
   pub file : List ℕ
   pub at : ℕ
-  pub answer : Seen
-  pub same : (x : Seen) → ((v : Read) → x ≡ scanned (rest v) file at) → x ≡ answer
+  pub answer : Result ℕ Form
+  pub same : (x : Result ℕ Form) → ((v : Read) → x ≡ scanned (rest v) file at) → x ≡ answer
 
 -- A part that was read: refused, it answers for the whole; passed, the rest is left.
 pub record Part (B : Type 0) : Type 1 where
-  pub result : Seen
-  pub answer : Seen
-  pub refused : {f : Form} → result ≡ Refused f → result ≡ answer
-  pub passed : {q : ℕ} → result ≡ Next q → Left B
+  pub result : Result ℕ Form
+  pub answer : Result ℕ Form
+  pub refused : {x : Result ℕ Form} {f : Form} → x ≡ Err f → result ≡ Err f → x ≡ answer
+  pub passed : {q : ℕ} → result ≡ Ok q → Left B
 
 abbrev pub all_left : {B : Type 0} (whole : Reader B) (file : List ℕ) (at : ℕ) → Left B
 all_left whole file at = record { Read = Unit; rest = λ _. whole; file = file; at = at; answer = scanned whole file at; same = λ x go. go tt }
 
-module _ {R A B : Type 0} (reader : R → Reader A) (file : List ℕ) (p : ℕ) {answer : Seen} where
+module _ {R A B : Type 0} (reader : R → Reader A) (file : List ℕ) (p : ℕ) {answer : Result ℕ Form} where
   -- `same` is that of what was left before this part
-  abbrev pub part : (k : R → A → Reader B) → ((x : Seen) → ((v : R) → x ≡ scanned (and_then (reader v) (k v)) file p) → x ≡ answer) → ((v : R) → Steady (reader v))
-      → {r : Seen} → ((v : R) → r ≡ scanned (reader v) file p) → Part B
+  abbrev pub part : (k : R → A → Reader B) → ((x : Result ℕ Form) → ((v : R) → x ≡ scanned (and_then (reader v) (k v)) file p) → x ≡ answer) → ((v : R) → Steady (reader v))
+      → {r : Result ℕ Form} → ((v : R) → r ≡ scanned (reader v) file p) → Part B
   part k same s {r} told = record {
     result = r;
     answer = answer;
-    refused = λ e. same r (λ v. then_stop (reader v) (k v) file p (told v) e);
+    refused = λ x e. x ∙ sym e ∙ same r (λ v. then_stop (reader v) (k v) file p (told v) e);
     passed = λ {q} e. record {
       Read = (v : R) × (a : A) × (reader v p (drop p file) ≡ got a q (drop q file));
       rest = λ v. k v.0 v.1;
@@ -47,10 +46,10 @@ module _ {R A B : Type 0} (reader : R → Reader A) (file : List ℕ) (p : ℕ) 
   }
 
   -- the last part answers for the whole
-  pub last_part : (make : R → A → B) → ((x : Seen) → ((v : R) → x ≡ scanned (and_then (reader v) (λ a. done (make v a))) file p) → x ≡ answer)
-      → {r : Seen} → ((v : R) → r ≡ scanned (reader v) file p) → r ≡ answer
+  pub last_part : (make : R → A → B) → ((x : Result ℕ Form) → ((v : R) → x ≡ scanned (and_then (reader v) (λ a. done (make v a))) file p) → x ≡ answer)
+      → {r : Result ℕ Form} → ((v : R) → r ≡ scanned (reader v) file p) → r ≡ answer
   last_part make same {r} told = same r (λ v. then_last (reader v) (make v) file p (told v))
 
 -- A reader by a value that the code has under another name.
-pub told_as : {X A : Type 0} (reader : X → Reader A) (file : List ℕ) (at : ℕ) {x y : X} {r : Seen} → x ≡ y → r ≡ scanned (reader x) file at → r ≡ scanned (reader y) file at
+pub told_as : {X A : Type 0} (reader : X → Reader A) (file : List ℕ) (at : ℕ) {x y : X} {r : Result ℕ Form} → x ≡ y → r ≡ scanned (reader x) file at → r ≡ scanned (reader y) file at
 told_as {X = X} reader file at e told = told ∙ ap (λ (n : X). scanned (reader n) file at) e

@@ -1,5 +1,5 @@
 -- Reading a plan file: what each section gives, in the document's order, or the form of the first bad byte.
-use Rattle.std.specs.Prelude.{ℕ, zero, suc, ◌+◌, Bool, cond, List, [], ◌∷◌, length, drop, ltb}
+use Rattle.std.specs.Prelude.{ℕ, zero, suc, ◌+◌, Bool, cond, List, [], ◌∷◌, length, drop, ltb, Err, Ok, Result}
 use Rattle.plan.specs.declared.Track.{Track}
 use Rattle.plan.specs.declared.Release.{Release}
 use Rattle.plan.specs.Limits.{least_tracks, most_tracks, most_signals, most_routes, most_entries, least_path, most_path, most_clear, most_points, most_releases}
@@ -7,8 +7,6 @@ use Rattle.plan.specs.Kinds.{kinds, is_point, limit_of}
 use Rattle.plan.specs.Records.{Route, Entry, Plan}
 use Rattle.reading.specs.declared.Form.{Form}
 use Rattle.reading.specs.declared.Form.TheVariants.{EndsEarly, BadCount, BadNumber, NotRising, LeftOver}
-use Rattle.reading.specs.declared.Seen.{Seen}
-use Rattle.reading.specs.declared.Seen.TheVariants.{Next, Refused}
 
 -- The table of forms: number and offset.
 
@@ -163,9 +161,9 @@ parse file = nothing_left (sections 0 file)
 
 -- The code's answer for what is read: the next offset, or the form; and for a reader that stands at an offset of a file.
 
-abbrev pub seen : {A : Type 0} → Got A → Seen
-seen (form f) = Refused f
-seen (got a at rest) = Next at
+abbrev pub seen : {A : Type 0} → Got A → Result ℕ Form
+seen (form f) = Err f
+seen (got a at rest) = Ok at
 
-unfoldable pub scanned : {A : Type 0} → Reader A → List ℕ → ℕ → Seen
+unfoldable pub scanned : {A : Type 0} → Reader A → List ℕ → ℕ → Result ℕ Form
 scanned reader file at = seen (reader at (drop at file))

@@ -2,12 +2,12 @@
 // gives at that offset: the offset of the next byte, or the form of the first bad one.
 #![tactic(auto)]
 
-ghost use Rattle.std.specs.Prelude.{◌≡◌, length};
+ghost use Rattle.std.specs.Prelude.{◌≡◌, ℕ, Bool, length};
 ghost use Rattle.plan.specs.Kinds.{is_point, limit_of};
-ghost use Rattle.reading.specs.Reading.{below, count, entry, entry_section, number, path_list, point_list, release, release_list, rising_list, route, route_section, scanned, track, track_section};
+ghost use Rattle.reading.specs.Calls.{IsStep, IsTest, Step, byte_at, counted_steps, freed, repeated, stepped};
+ghost use Rattle.reading.specs.Reading.{above, after_entry, after_release, below, count, entry, entry_section, form_number, form_offset, number, path_list, point_list, release, release_list, rising_list, route, route_section, scanned, track, track_section};
 ghost use Rattle.plan.specs.Image.{plan_of};
 
-use lists::wide;
 use plan::image::{is_point, signals, tracks};
 use plan::kinds::{KINDS, uses};
 use plan::limits::{
@@ -24,296 +24,258 @@ pub enum Form {
     LeftOver(usize),
 }
 
-// How far reading came: to the offset of the next byte, or to a form.
-#[derive(Clone, Copy)]
-pub enum Seen {
-    Next(usize),
-    Refused(Form),
+impl Form {
+    // Its number in the document's table.
+    pub fn number(self) -> usize
+        ensures { result ≡ form_number self }
+    {
+        match self {
+            Form::EndsEarly(_) => 1,
+            Form::BadCount(_) => 2,
+            Form::BadNumber(_) => 3,
+            Form::NotRising(_) => 4,
+            Form::LeftOver(_) => 5,
+        }
+    }
+
+    // The offset of the first bad byte.
+    pub fn offset(self) -> usize
+        ensures { result ≡ form_offset self }
+    {
+        match self {
+            Form::EndsEarly(at)
+            | Form::BadCount(at)
+            | Form::BadNumber(at)
+            | Form::NotRising(at)
+            | Form::LeftOver(at) => at,
+        }
+    }
+}
+
+// The number at an offset.
+fn byte_at(file: &[u8], at: usize) -> Result<usize, Form>
+    ensures { result ≡ byte_at file.now at }
+{
+    file.get(at)
+        .map(|b| usize::from(*b))
+        .ok_or(Form::EndsEarly(at))
+}
+
+// A number that fits, and is not below the least one allowed: where it ends, and the least number that is above it.
+fn fitting<F: Fn(usize) -> bool>(
+    file: &[u8],
+    at: usize,
+    least: usize,
+    fits: F,
+) -> Result<(usize, usize), Form>
+    requires { F.IsAlwaysCallable fits }
+    ensures { (test : ℕ → Bool) → IsTest (F.post fits) test → result ≡ stepped (number test) above file.now at least }
+{
+    let found = byte_at(file, at)?;
+    if !fits(found) {
+        return Err(Form::BadNumber(at));
+    }
+    if found < least {
+        return Err(Form::NotRising(at));
+    }
+    Ok((at + 1, found + 1))
+}
+
+// A number below a limit.
+pub fn number_step(
+    file: &[u8],
+    at: usize,
+    limit: usize,
+    least: usize,
+) -> Result<(usize, usize), Form>
+    ensures { result ≡ stepped (number (below limit)) above file.now at least }
+{
+    fitting(file, at, least, |found| found < limit)
+}
+
+// A point.
+fn point_step(
+    file: &[u8],
+    at: usize,
+    image: &[u8; IMAGE],
+    least: usize,
+) -> Result<(usize, usize), Form>
+    ensures { result ≡ stepped (number (is_point (plan_of image.now).tracks)) above file.now at least }
+{
+    fitting(file, at, least, |found| is_point(image, found))
 }
 
 // A number below a limit, and not below the least one allowed.
-pub fn number_at(file: &[u8], at: usize, limit: usize, least: usize) -> Seen
+pub fn number_at(file: &[u8], at: usize, limit: usize, least: usize) -> Result<usize, Form>
     ensures { result ≡ scanned (number (below limit) least) file.now at }
 {
-    if file.len() <= at {
-        return Seen::Refused(Form::EndsEarly(at));
-    }
-    let found = wide(file[at]);
-    if limit <= found {
-        return Seen::Refused(Form::BadNumber(at));
-    }
-    if found < least {
-        return Seen::Refused(Form::NotRising(at));
-    }
-    Seen::Next(at + 1)
-}
-
-// A point, not below the least one allowed.
-fn point_at(file: &[u8], at: usize, image: &[u8; IMAGE], least: usize) -> Seen
-    ensures { result ≡ scanned (number (is_point (plan_of image.now).tracks) least) file.now at }
-{
-    if file.len() <= at {
-        return Seen::Refused(Form::EndsEarly(at));
-    }
-    let found = wide(file[at]);
-    if is_point(image, found) {
-        if found < least {
-            return Seen::Refused(Form::NotRising(at));
-        }
-        return Seen::Next(at + 1);
-    }
-    Seen::Refused(Form::BadNumber(at))
+    let (next, _) = number_step(file, at, limit, least)?;
+    Ok(next)
 }
 
 // A count within its limits.
-pub fn count_of(file: &[u8], at: usize, least: usize, most: usize) -> Seen
+pub fn count_of(file: &[u8], at: usize, least: usize, most: usize) -> Result<usize, Form>
     ensures { result ≡ scanned (count least most) file.now at }
 {
-    if file.len() <= at {
-        return Seen::Refused(Form::EndsEarly(at));
+    let found = byte_at(file, at)?;
+    if found < least || most < found {
+        return Err(Form::BadCount(at));
     }
-    let found = wide(file[at]);
-    if found < least {
-        return Seen::Refused(Form::BadCount(at));
+    Ok(at + 1)
+}
+
+// Things one after the other, from an offset on. A step reads the one that begins at an offset, where no number below a least one is allowed, and
+// hands back where it ends, and the least number that is allowed of the next.
+pub fn many<F: Fn(usize, usize) -> Result<(usize, usize), Form>>(
+    from: usize,
+    count: usize,
+    step: F,
+) -> Result<usize, Form>
+    requires { F.IsAlwaysCallable step }
+    ensures { (one : Step) → IsStep (F.post step) one → result ≡ repeated one count from 0 }
+{
+    let mut at = from;
+    let mut least = 0;
+    for _ in 0..count {
+        (at, least) = step(at, least)?;
     }
-    if most < found {
-        return Seen::Refused(Form::BadCount(at));
-    }
-    Seen::Next(at + 1)
+    Ok(at)
+}
+
+// The same after their count, which has its limits.
+pub fn counted<F: Fn(usize, usize) -> Result<(usize, usize), Form>>(
+    file: &[u8],
+    from: usize,
+    least: usize,
+    most: usize,
+    step: F,
+) -> Result<usize, Form>
+    requires { F.IsAlwaysCallable step }
+    ensures { (one : Step) → IsStep (F.post step) one → result ≡ counted_steps one least most file.now from }
+{
+    let first = count_of(file, from, least, most)?;
+    many(first, usize::from(file[from]), step)
+}
+
+// A step after which any number may follow.
+pub fn free(end: Result<usize, Form>) -> Result<(usize, usize), Form>
+    ensures { result ≡ freed end }
+{
+    Ok((end?, 0))
 }
 
 // A path, in travel order.
-pub fn path_list(file: &[u8], from: usize, tracks: usize) -> Seen
+pub fn path_list(file: &[u8], from: usize, tracks: usize) -> Result<usize, Form>
     ensures { result ≡ scanned (path_list tracks) file.now from }
 {
-    let counted = count_of(file, from, LEAST_PATH, PATH);
-    let Seen::Next(first) = counted else {
-        return counted;
-    };
-    let mut left = wide(file[from]);
-    let mut at = first;
-    while 0 < left {
-        let seen = number_at(file, at, tracks, 0);
-        let Seen::Next(next) = seen else {
-            return seen;
-        };
-        at = next;
-        left -= 1;
-    }
-    Seen::Next(at)
+    counted(file, from, LEAST_PATH, PATH, |at, least| {
+        free(number_at(file, at, tracks, least))
+    })
 }
 
 // A list of tracks that rises strictly.
-pub fn rising_list(file: &[u8], from: usize, tracks: usize, most: usize) -> Seen
+pub fn rising_list(file: &[u8], from: usize, tracks: usize, most: usize) -> Result<usize, Form>
     ensures { result ≡ scanned (rising_list tracks most) file.now from }
 {
-    let counted = count_of(file, from, 0, most);
-    let Seen::Next(first) = counted else {
-        return counted;
-    };
-    let mut left = wide(file[from]);
-    let mut at = first;
-    let mut least: usize = 0;
-    while 0 < left {
-        let seen = number_at(file, at, tracks, least);
-        let Seen::Next(next) = seen else {
-            return seen;
-        };
-        least = wide(file[at]) + 1;
-        at = next;
-        left -= 1;
-    }
-    Seen::Next(at)
+    counted(file, from, 0, most, |at, least| {
+        number_step(file, at, tracks, least)
+    })
 }
 
 // A list of points that rises strictly.
-pub fn point_list(file: &[u8], from: usize, image: &[u8; IMAGE]) -> Seen
+pub fn point_list(file: &[u8], from: usize, image: &[u8; IMAGE]) -> Result<usize, Form>
     ensures { result ≡ scanned (point_list (plan_of image.now).tracks) file.now from }
 {
-    let counted = count_of(file, from, 0, POINTS);
-    let Seen::Next(first) = counted else {
-        return counted;
-    };
-    let mut left = wide(file[from]);
-    let mut at = first;
-    let mut least: usize = 0;
-    while 0 < left {
-        let seen = point_at(file, at, image, least);
-        let Seen::Next(next) = seen else {
-            return seen;
-        };
-        least = wide(file[at]) + 1;
-        at = next;
-        left -= 1;
-    }
-    Seen::Next(at)
+    counted(file, from, 0, POINTS, |at, least| {
+        point_step(file, at, image, least)
+    })
 }
 
 // The limit of a track's i-th number, by the track's kind.
+#[tactic(auto, unfolding(plan::specs::Kinds::limit_of))]
 fn limit_of(tracks: usize, kind: u8, i: usize) -> usize
     ensures { result ≡ limit_of tracks kind i }
 {
-    if i < uses(kind) {
-        return tracks;
-    }
-    1
+    if i < uses(kind) { tracks } else { 1 }
 }
 
 // A track: its kind and three numbers.
-fn track_at(file: &[u8], at: usize, tracks: usize) -> Seen
+fn track_at(file: &[u8], at: usize, tracks: usize) -> Result<usize, Form>
     ensures { result ≡ scanned (track tracks) file.now at }
 {
-    let kind_seen = number_at(file, at, KINDS, 0);
-    let Seen::Next(first) = kind_seen else {
-        return kind_seen;
-    };
+    let first = number_at(file, at, KINDS, 0)?;
     let kind = file[at];
-    let first_seen = number_at(file, first, limit_of(tracks, kind, 0), 0);
-    let Seen::Next(second) = first_seen else {
-        return first_seen;
-    };
-    let second_seen = number_at(file, second, limit_of(tracks, kind, 1), 0);
-    let Seen::Next(third) = second_seen else {
-        return second_seen;
-    };
+    let second = number_at(file, first, limit_of(tracks, kind, 0), 0)?;
+    let third = number_at(file, second, limit_of(tracks, kind, 1), 0)?;
     number_at(file, third, limit_of(tracks, kind, 2), 0)
 }
 
 // Section 1: the tracks after their count.
-pub fn track_section(file: &[u8], from: usize) -> Seen
+pub fn track_section(file: &[u8], from: usize) -> Result<usize, Form>
     ensures { result ≡ scanned track_section file.now from }
 {
-    let counted = count_of(file, from, LEAST_TRACKS, TRACKS);
-    let Seen::Next(first) = counted else {
-        return counted;
-    };
-    let tracks = wide(file[from]);
-    let mut left = tracks;
-    let mut at = first;
-    while 0 < left {
-        let seen = track_at(file, at, tracks);
-        let Seen::Next(next) = seen else {
-            return seen;
-        };
-        at = next;
-        left -= 1;
-    }
-    Seen::Next(at)
+    let first = count_of(file, from, LEAST_TRACKS, TRACKS)?;
+    let tracks = usize::from(file[from]);
+    many(first, tracks, |at, _| free(track_at(file, at, tracks)))
 }
 
 // A release: a track, then a point not below the least one allowed.
-fn release_at(file: &[u8], at: usize, image: &[u8; IMAGE], least: usize) -> Seen
-    ensures { result ≡ scanned (release (plan_of image.now).tracks least) file.now at }
+fn release_step(
+    file: &[u8],
+    at: usize,
+    image: &[u8; IMAGE],
+    least: usize,
+) -> Result<(usize, usize), Form>
+    ensures { result ≡ stepped (release (plan_of image.now).tracks) after_release file.now at least }
 {
-    let track_seen = number_at(file, at, tracks(image), 0);
-    let Seen::Next(point) = track_seen else {
-        return track_seen;
-    };
-    point_at(file, point, image, least)
+    let point = number_at(file, at, tracks(image), 0)?;
+    point_step(file, point, image, least)
 }
 
 // The releases of a route, which rise strictly by point.
-pub fn release_list(file: &[u8], from: usize, image: &[u8; IMAGE]) -> Seen
+pub fn release_list(file: &[u8], from: usize, image: &[u8; IMAGE]) -> Result<usize, Form>
     ensures { result ≡ scanned (release_list (plan_of image.now).tracks) file.now from }
 {
-    let counted = count_of(file, from, 0, RELEASES);
-    let Seen::Next(first) = counted else {
-        return counted;
-    };
-    let mut left = wide(file[from]);
-    let mut at = first;
-    let mut least: usize = 0;
-    while 0 < left {
-        let seen = release_at(file, at, image, least);
-        let Seen::Next(next) = seen else {
-            return seen;
-        };
-        least = wide(file[at + 1]) + 1;
-        at = next;
-        left -= 1;
-    }
-    Seen::Next(at)
+    counted(file, from, 0, RELEASES, |at, least| {
+        release_step(file, at, image, least)
+    })
 }
 
 // A route: its start signal and five lists.
-fn route_at(file: &[u8], at: usize, image: &[u8; IMAGE]) -> Seen
+fn route_at(file: &[u8], at: usize, image: &[u8; IMAGE]) -> Result<usize, Form>
     ensures { result ≡ scanned (route (plan_of image.now).tracks (length (plan_of image.now).signals)) file.now at }
 {
     let tracks = tracks(image);
-    let start = number_at(file, at, signals(image), 0);
-    let Seen::Next(path_from) = start else {
-        return start;
-    };
-    let path = path_list(file, path_from, tracks);
-    let Seen::Next(clear_from) = path else {
-        return path;
-    };
-    let clear = rising_list(file, clear_from, tracks, CLEAR);
-    let Seen::Next(normal_from) = clear else {
-        return clear;
-    };
-    let normal = point_list(file, normal_from, image);
-    let Seen::Next(reverse_from) = normal else {
-        return normal;
-    };
-    let reverse = point_list(file, reverse_from, image);
-    let Seen::Next(releases_from) = reverse else {
-        return reverse;
-    };
+    let path_from = number_at(file, at, signals(image), 0)?;
+    let clear_from = path_list(file, path_from, tracks)?;
+    let normal_from = rising_list(file, clear_from, tracks, CLEAR)?;
+    let reverse_from = point_list(file, normal_from, image)?;
+    let releases_from = point_list(file, reverse_from, image)?;
     release_list(file, releases_from, image)
 }
 
 // Section 3: the routes after their count.
-pub fn route_section(file: &[u8], from: usize, image: &[u8; IMAGE]) -> Seen
+pub fn route_section(file: &[u8], from: usize, image: &[u8; IMAGE]) -> Result<usize, Form>
     ensures { result ≡ scanned (route_section (plan_of image.now).tracks (length (plan_of image.now).signals)) file.now from }
 {
-    let counted = count_of(file, from, 0, ROUTES);
-    let Seen::Next(first) = counted else {
-        return counted;
-    };
-    let mut left = wide(file[from]);
-    let mut at = first;
-    while 0 < left {
-        let seen = route_at(file, at, image);
-        let Seen::Next(next) = seen else {
-            return seen;
-        };
-        at = next;
-        left -= 1;
-    }
-    Seen::Next(at)
+    counted(file, from, 0, ROUTES, |at, _| {
+        free(route_at(file, at, image))
+    })
 }
 
 // An entry: its track, not below the least one allowed, and its clear list.
-fn entry_at(file: &[u8], at: usize, tracks: usize, least: usize) -> Seen
-    ensures { result ≡ scanned (entry tracks least) file.now at }
+fn entry_step(file: &[u8], at: usize, tracks: usize, least: usize) -> Result<(usize, usize), Form>
+    ensures { result ≡ stepped (entry tracks) after_entry file.now at least }
 {
-    let on = number_at(file, at, tracks, least);
-    let Seen::Next(clear_from) = on else {
-        return on;
-    };
-    rising_list(file, clear_from, tracks, CLEAR)
+    let (clear_from, next) = number_step(file, at, tracks, least)?;
+    Ok((rising_list(file, clear_from, tracks, CLEAR)?, next))
 }
 
 // Section 4: the entries after their count.
-pub fn entry_section(file: &[u8], from: usize, tracks: usize) -> Seen
+pub fn entry_section(file: &[u8], from: usize, tracks: usize) -> Result<usize, Form>
     ensures { result ≡ scanned (entry_section tracks) file.now from }
 {
-    let counted = count_of(file, from, 0, ENTRIES);
-    let Seen::Next(first) = counted else {
-        return counted;
-    };
-    let mut left = wide(file[from]);
-    let mut at = first;
-    let mut least: usize = 0;
-    while 0 < left {
-        let seen = entry_at(file, at, tracks, least);
-        let Seen::Next(next) = seen else {
-            return seen;
-        };
-        least = wide(file[at]) + 1;
-        at = next;
-        left -= 1;
-    }
-    Seen::Next(at)
+    counted(file, from, 0, ENTRIES, |at, least| {
+        entry_step(file, at, tracks, least)
+    })
 }

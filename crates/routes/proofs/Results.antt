@@ -6,7 +6,7 @@ use Rattle.laws.specs.Search.{all_below}
 use Rattle.plan.specs.Records.{route_of}
 use Rattle.plan.specs.Image.{plan_of}
 use Rattle.plan.specs.Routes.{points_of, listed, released, path_length, way_of, track_at}
-use Rattle.rules.specs.Rules.{later, wants, wants_out, listed_out, wants_in, listed_in, linked_at, path_linked, no_home_at, ends, path_ends, path_clear, facing_listed, trailing_listed, points_listed, points_clear, release_fits, releases_fit}
+use Rattle.rules.specs.Rules.{later, wants, listed_out, listed_in, linked_at, path_linked, no_home_at, ends, path_ends, path_clear, facing_listed, trailing_listed, points_listed, points_clear, release_fits, releases_fit}
 
 pub track_at_once : (image : List ℕ) (route place r r₂ : ℕ)
     → (r ≡ track_at (plan_of image) route place)
@@ -74,23 +74,11 @@ pub wants_lie_once : (image : List ℕ) (route point : ℕ) (lie r r₂ : Bool)
     → r is r₂
 wants_lie_once image route point lie r r₂ by_one by_other = equal_once _ _ _ by_one by_other
 
-pub wants_out_once : (image : List ℕ) (route point : ℕ) (lie : Bool) (to : ℕ) (r r₂ : Bool)
-    → (r ≡ wants_out (plan_of image) route point lie to)
-    → (r₂ ≡ wants_out (plan_of image) route point lie to)
-    → r is r₂
-wants_out_once image route point lie to r r₂ by_one by_other = equal_once _ _ _ by_one by_other
-
 pub listed_out_once : (image : List ℕ) (route point to : ℕ) (r r₂ : Bool)
     → (r ≡ listed_out (plan_of image) route point to)
     → (r₂ ≡ listed_out (plan_of image) route point to)
     → r is r₂
 listed_out_once image route point to r r₂ by_one by_other = equal_once _ _ _ by_one by_other
-
-pub wants_in_once : (image : List ℕ) (route point : ℕ) (lie : Bool) (from : ℕ) (r r₂ : Bool)
-    → (r ≡ wants_in (plan_of image) route point lie from)
-    → (r₂ ≡ wants_in (plan_of image) route point lie from)
-    → r is r₂
-wants_in_once image route point lie from r r₂ by_one by_other = equal_once _ _ _ by_one by_other
 
 pub listed_in_once : (image : List ℕ) (route point from : ℕ) (r r₂ : Bool)
     → (r ≡ listed_in (plan_of image) route point from)

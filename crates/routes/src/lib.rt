@@ -7,28 +7,27 @@ ghost use Rattle.laws.specs.Search.{all_below};
 ghost use Rattle.plan.specs.Records.{route_of};
 ghost use Rattle.plan.specs.Image.{plan_of};
 ghost use Rattle.plan.specs.Routes.{points_of, listed, released, path_length, way_of, track_at};
-ghost use Rattle.rules.specs.Rules.{later, wants, wants_out, listed_out, wants_in, listed_in, linked_at, path_linked, no_home_at, ends, path_ends, path_clear, facing_listed, trailing_listed, points_listed, points_clear, release_fits, releases_fit};
+ghost use Rattle.rules.specs.Rules.{later, wants, listed_out, listed_in, linked_at, path_linked, no_home_at, ends, path_ends, path_clear, facing_listed, trailing_listed, points_listed, points_clear, release_fits, releases_fit};
 
 use layout::{home_of, is_exit, is_forking, is_home, is_legged, leads_to, leg_of, way_out};
-use lists::{all_in, different, has, none_in, wide};
+use lists::{all_in, different, has, none_in};
 use plan::image::{clear_of, normal_of, path_of, releases_of, reverse_of, start_of};
-use plan::limits::IMAGE;
+use plan::limits::{IMAGE, RELEASE_SIZE};
 
 // A route's track at a place: its home at 0, its path from 1 on.
+#[tactic(auto, unfolding(plan::specs::Routes::track_at, plan::specs::Routes::way_of))]
 fn track_at(image: &[u8; IMAGE], route: usize, place: usize) -> usize
     ensures { result ≡ track_at (plan_of image.now) route place }
 {
-    if place == 0 {
-        return home_of(image, start_of(image, route));
+    match place.checked_sub(1) {
+        None => home_of(image, start_of(image, route)),
+        Some(i) => path_of(image, route)
+            .get(i)
+            .map_or(0, |track| usize::from(*track)),
     }
-    let path = path_of(image, route);
-    let i = place - 1;
-    if path.len() <= i {
-        return 0;
-    }
-    wide(path[i])
 }
 
+#[tactic(auto, using(crate::proofs::Ways::path_most), unfolding(rules::specs::Rules::linked_at))]
 fn linked_at(image: &[u8; IMAGE], route: usize, i: usize) -> bool
     requires { i < path_length (plan_of image.now) route }
     ensures { result ≡ linked_at (plan_of image.now) route i }
@@ -44,75 +43,52 @@ fn linked_at(image: &[u8; IMAGE], route: usize, i: usize) -> bool
 fn links(image: &[u8; IMAGE], route: usize) -> bool
     ensures { result ≡ all_below (path_length (plan_of image.now) route) (linked_at (plan_of image.now) route) }
 {
-    let path = path_of(image, route);
-    let mut i = 0;
-    while i < path.len() {
-        if !linked_at(image, route, i) {
-            return false;
-        }
-        i += 1;
-    }
-    true
+    (0..path_of(image, route).len()).all(|i| linked_at(image, route, i))
 }
 
 // Whether home and path tracks are all different.
+#[tactic(auto, unfolding(laws::specs::Lists::different, plan::specs::Routes::way_of, plan::specs::Routes::track_at))]
 fn way_differs(image: &[u8; IMAGE], route: usize) -> bool
     ensures { result ≡ different (way_of (plan_of image.now) route) }
 {
     let path = path_of(image, route);
-    if has(path, track_at(image, route, 0)) {
-        return false;
-    }
-    different(path)
+    !has(path, track_at(image, route, 0)) && different(path)
 }
 
+#[tactic(auto, unfolding(rules::specs::Rules::path_linked))]
 pub fn path_linked(image: &[u8; IMAGE], route: usize) -> bool
     ensures { result ≡ path_linked (plan_of image.now) route }
 {
-    if !links(image, route) {
-        return false;
-    }
-    way_differs(image, route)
+    links(image, route) && way_differs(image, route)
 }
 
 // Whether no path track but the last is a home.
 fn passes(image: &[u8; IMAGE], route: usize) -> bool
     ensures { result ≡ all_below (path_length (plan_of image.now) route - 1) (no_home_at (plan_of image.now) route) }
 {
-    let path = path_of(image, route);
-    if path.len() == 0 {
-        return true;
+    match path_of(image, route).split_last() {
+        None => true,
+        Some((_, passed)) => passed
+            .iter()
+            .all(|track| !is_home(image, usize::from(*track))),
     }
-    let last = path.len() - 1;
-    let mut i = 0;
-    while i < last {
-        if is_home(image, wide(path[i])) {
-            return false;
-        }
-        i += 1;
-    }
-    true
 }
 
+#[tactic(auto, unfolding(rules::specs::Rules::ends))]
 fn ends_at(image: &[u8; IMAGE], track: usize) -> bool
     ensures { result ≡ ends (plan_of image.now) track }
 {
-    if is_home(image, track) {
-        return true;
-    }
-    is_exit(image, track)
+    is_home(image, track) || is_exit(image, track)
 }
 
+#[tactic(auto, unfolding(rules::specs::Rules::path_ends))]
 pub fn path_ends(image: &[u8; IMAGE], route: usize) -> bool
     ensures { result ≡ path_ends (plan_of image.now) route }
 {
-    if !passes(image, route) {
-        return false;
-    }
-    let path = path_of(image, route);
-    ends_at(image, track_at(image, route, path.len()))
+    passes(image, route) && ends_at(image, track_at(image, route, path_of(image, route).len()))
 }
 
+#[tactic(auto, unfolding(rules::specs::Rules::path_clear))]
 pub fn path_clear(image: &[u8; IMAGE], route: usize) -> bool
     ensures { result ≡ path_clear (plan_of image.now) route }
 {
@@ -120,227 +96,152 @@ pub fn path_clear(image: &[u8; IMAGE], route: usize) -> bool
 }
 
 // The points that a route lists normal (false) or reverse (true).
+#[tactic(auto, unfolding(plan::specs::Routes::points_of))]
 fn points_of(image: &[u8; IMAGE], route: usize, lie: bool) -> &[u8]
     ensures { result.now ≡ points_of (plan_of image.now) route lie }
 {
     if lie {
-        return reverse_of(image, route);
+        reverse_of(image, route)
+    } else {
+        normal_of(image, route)
     }
-    normal_of(image, route)
 }
 
+#[tactic(auto, unfolding(rules::specs::Rules::wants))]
 fn wants_lie(image: &[u8; IMAGE], route: usize, point: usize, lie: bool) -> bool
     ensures { result ≡ wants (plan_of image.now) route point lie }
 {
     has(points_of(image, route, lie), point)
 }
 
-fn wants_out(image: &[u8; IMAGE], route: usize, point: usize, lie: bool, to: usize) -> bool
-    ensures { result ≡ wants_out (plan_of image.now) route point lie to }
-{
-    if !wants_lie(image, route, point, lie) {
-        return false;
-    }
-    way_out(image, point, lie) == to
-}
-
+// Whether the route lists the point for a lie by which it leads to the track.
+#[tactic(auto, unfolding(rules::specs::Rules::listed_out, rules::specs::Rules::wants_out))]
 fn listed_out(image: &[u8; IMAGE], route: usize, point: usize, to: usize) -> bool
     ensures { result ≡ listed_out (plan_of image.now) route point to }
 {
-    if wants_out(image, route, point, false, to) {
-        return true;
-    }
-    wants_out(image, route, point, true, to)
+    [false, true].iter().any(|lie| wants_lie(image, route, point, *lie)
+        && way_out(image, point, *lie) == to)
 }
 
-fn wants_in(image: &[u8; IMAGE], route: usize, point: usize, lie: bool, from: usize) -> bool
-    ensures { result ≡ wants_in (plan_of image.now) route point lie from }
-{
-    if !wants_lie(image, route, point, lie) {
-        return false;
-    }
-    leg_of(image, point, lie) == from
-}
-
+// Whether the route lists the point for a lie by which it is entered from the track.
+#[tactic(auto, unfolding(rules::specs::Rules::listed_in, rules::specs::Rules::wants_in))]
 fn listed_in(image: &[u8; IMAGE], route: usize, point: usize, from: usize) -> bool
     ensures { result ≡ listed_in (plan_of image.now) route point from }
 {
-    if wants_in(image, route, point, false, from) {
-        return true;
-    }
-    wants_in(image, route, point, true, from)
+    [false, true].iter().any(|lie| wants_lie(image, route, point, *lie)
+        && leg_of(image, point, *lie) == from)
 }
 
+#[tactic(auto, using(crate::proofs::Ways::path_most), unfolding(rules::specs::Rules::facing_listed))]
 fn facing_listed(image: &[u8; IMAGE], route: usize, i: usize) -> bool
     requires { i < path_length (plan_of image.now) route }
     ensures { result ≡ facing_listed (plan_of image.now) route i }
 {
     let point = track_at(image, route, i + 1);
-    if !is_forking(image, point) {
-        return true;
-    }
-    let path = path_of(image, route);
-    if path.len() <= i + 1 {
-        return false;
-    }
-    listed_out(image, route, point, track_at(image, route, i + 2))
+    !is_forking(image, point)
+        || i + 1 < path_of(image, route).len()
+            && listed_out(image, route, point, track_at(image, route, i + 2))
 }
 
 // Whether each facing point on the path is listed by the way out taken.
 fn facing_all(image: &[u8; IMAGE], route: usize) -> bool
     ensures { result ≡ all_below (path_length (plan_of image.now) route) (facing_listed (plan_of image.now) route) }
 {
-    let path = path_of(image, route);
-    let mut i = 0;
-    while i < path.len() {
-        if !facing_listed(image, route, i) {
-            return false;
-        }
-        i += 1;
-    }
-    true
+    (0..path_of(image, route).len()).all(|i| facing_listed(image, route, i))
 }
 
+#[tactic(auto, using(crate::proofs::Ways::path_most), unfolding(rules::specs::Rules::trailing_listed))]
 fn trailing_listed(image: &[u8; IMAGE], route: usize, i: usize) -> bool
     requires { i < path_length (plan_of image.now) route }
     ensures { result ≡ trailing_listed (plan_of image.now) route i }
 {
     let point = track_at(image, route, i + 1);
-    if !is_legged(image, point) {
-        return true;
-    }
-    listed_in(image, route, point, track_at(image, route, i))
+    !is_legged(image, point) || listed_in(image, route, point, track_at(image, route, i))
 }
 
 // Whether each trailing point on the path is listed by the leg it is entered from.
 fn trailing_all(image: &[u8; IMAGE], route: usize) -> bool
     ensures { result ≡ all_below (path_length (plan_of image.now) route) (trailing_listed (plan_of image.now) route) }
 {
-    let path = path_of(image, route);
-    let mut i = 0;
-    while i < path.len() {
-        if !trailing_listed(image, route, i) {
-            return false;
-        }
-        i += 1;
-    }
-    true
+    (0..path_of(image, route).len()).all(|i| trailing_listed(image, route, i))
 }
 
+#[tactic(auto, unfolding(rules::specs::Rules::points_listed, rules::specs::Rules::wants))]
 pub fn points_listed(image: &[u8; IMAGE], route: usize) -> bool
     ensures { result ≡ points_listed (plan_of image.now) route }
 {
-    if !facing_all(image, route) {
-        return false;
-    }
-    if !trailing_all(image, route) {
-        return false;
-    }
-    none_in(
-        points_of(image, route, false),
-        points_of(image, route, true),
-    )
+    facing_all(image, route)
+        && trailing_all(image, route)
+        && none_in(
+            points_of(image, route, false),
+            points_of(image, route, true),
+        )
 }
 
+#[tactic(auto, unfolding(rules::specs::Rules::points_clear))]
 pub fn points_clear(image: &[u8; IMAGE], route: usize) -> bool
     ensures { result ≡ points_clear (plan_of image.now) route }
 {
     let clear = clear_of(image, route);
-    if !all_in(points_of(image, route, false), clear) {
-        return false;
-    }
-    all_in(points_of(image, route, true), clear)
+    all_in(points_of(image, route, false), clear) && all_in(points_of(image, route, true), clear)
 }
 
+#[tactic(auto, unfolding(plan::specs::Routes::listed))]
 fn is_listed(image: &[u8; IMAGE], route: usize, point: usize) -> bool
     ensures { result ≡ listed (route_of (plan_of image.now) route).normal (route_of (plan_of image.now) route).reverse point }
 {
-    if has(normal_of(image, route), point) {
-        return true;
-    }
-    has(reverse_of(image, route), point)
+    has(normal_of(image, route), point) || has(reverse_of(image, route), point)
 }
 
 // Whether a track is on a path, and later than a point where the point is on it.
 fn later(track: usize, point: usize, path: &[u8]) -> bool
     ensures { result ≡ later track point path.now }
 {
-    let mut i = 0;
-    while i < path.len() {
-        if wide(path[i]) == track {
-            return !has(&path[i..], point);
-        }
-        i += 1;
+    match path.iter().position(|on| usize::from(*on) == track) {
+        None => false,
+        Some(i) => !has(&path[i..], point),
     }
-    false
 }
 
+#[tactic(auto, unfolding(rules::specs::Rules::release_fits))]
 fn release_fits(image: &[u8; IMAGE], route: usize, track: usize, point: usize) -> bool
     ensures { result ≡ release_fits (plan_of image.now) route track point }
 {
-    if !is_listed(image, route, point) {
-        return false;
-    }
-    later(track, point, path_of(image, route))
+    is_listed(image, route, point) && later(track, point, path_of(image, route))
 }
 
 // Whether each release is of a listed point, on a later path track.
 fn releases_all(image: &[u8; IMAGE], route: usize) -> bool
     ensures { result ≡ all_of (λ q. release_fits (plan_of image.now) route q.track q.point) (route_of (plan_of image.now) route).releases }
 {
-    let pairs = releases_of(image, route);
-    let count = pairs.len() / 2;
-    let mut i = 0;
-    while i < count {
-        let track = wide(pairs[2 * i]);
-        let point = wide(pairs[2 * i + 1]);
-        if !release_fits(image, route, track, point) {
-            return false;
-        }
-        i += 1;
-    }
-    true
+    let (releases, _) = releases_of(image, route).as_chunks::<RELEASE_SIZE>();
+    releases.iter().all(|[track, point]| {
+        release_fits(image, route, usize::from(*track), usize::from(*point))
+    })
 }
 
 // Whether the route gives the point back.
 fn is_released(image: &[u8; IMAGE], route: usize, point: usize) -> bool
     ensures { result ≡ released (plan_of image.now) route point }
 {
-    let pairs = releases_of(image, route);
-    let count = pairs.len() / 2;
-    let mut i = 0;
-    while i < count {
-        if wide(pairs[2 * i + 1]) == point {
-            return true;
-        }
-        i += 1;
-    }
-    false
+    let (releases, _) = releases_of(image, route).as_chunks::<RELEASE_SIZE>();
+    releases.iter().any(|[_, back]| usize::from(*back) == point)
 }
 
 // Whether each point that the route lists for a lie is given back.
 fn released_all(image: &[u8; IMAGE], route: usize, lie: bool) -> bool
     ensures { result ≡ all_of (released (plan_of image.now) route) (points_of (plan_of image.now) route lie) }
 {
-    let points = points_of(image, route, lie);
-    let mut i = 0;
-    while i < points.len() {
-        if !is_released(image, route, wide(points[i])) {
-            return false;
-        }
-        i += 1;
-    }
-    true
+    points_of(image, route, lie)
+        .iter()
+        .all(|point| is_released(image, route, usize::from(*point)))
 }
 
+#[tactic(auto, unfolding(rules::specs::Rules::releases_fit))]
 pub fn releases_fit(image: &[u8; IMAGE], route: usize) -> bool
     ensures { result ≡ releases_fit (plan_of image.now) route }
 {
-    if !releases_all(image, route) {
-        return false;
-    }
-    if !released_all(image, route, false) {
-        return false;
-    }
-    released_all(image, route, true)
+    releases_all(image, route)
+        && released_all(image, route, false)
+        && released_all(image, route, true)
 }

@@ -1,5 +1,6 @@
 -- What the verdict says: accepted exactly when every rule's sentence holds of every row; rule k row i exactly when rule k is the lowest that is
 -- broken and i its lowest row.
+use Rattle.std.specs.Prelude.{Err, Ok}
 use mathlib.Core.Path.{◌≡◌, refl, subst}
 use mathlib.Core.Bool.{false, not}
 use mathlib.Core.Logic.{inl, inr, ◌↔◌}
@@ -9,14 +10,12 @@ use native.Mathlib.Omega.{arith}
 use native.Mathlib.Nat.{not-suc-le-zero}
 use lib.ListN.{length, get_or, get_or-eq_default}
 use Rattle.laws.specs.Tests.{fails, clash, same?, below?, not_t, not_f}
-use Rattle.laws.specs.Lists.{All, any_of, has}
+use Rattle.laws.specs.Lists.{All, has}
 use Rattle.laws.specs.Search.{lowest, lowest_from, lowest_at, lowest_none, unless, unless_ind}
 use Rattle.plan.specs.Records.{Plan, route_of, entry_of}
 use Rattle.plan.specs.Routes.{path_length}
-use Rattle.rules.specs.declared.Verdict.{Verdict}
-use Rattle.rules.specs.declared.Verdict.TheVariants.{Accepted, Broken}
 use Rattle.rules.specs.Rules.{path_clear, entry_clear}
-use Rattle.rules.specs.Verdict.{Rule, rules, no_rule, rule_of, Sound, Breaks, lowest_broken, first_broken, verdict, rule_number}
+use Rattle.rules.specs.Verdict.{Rule, rules, no_rule, rule_of, Sound, Breaks, lowest_broken, first_broken, verdict, rule_number, Verdict, broken}
 use Rattle.rules.proofs.Meaning.{path_clear_is, Tied, tied}
 
 -- What a search through a list of rules finds.
@@ -32,8 +31,8 @@ record First (l : List Rule) (k i : ℕ) : Type 0 where
 
 -- what is found in a list whose first rule has number n
 abbrev Finds : ℕ → List Rule → Verdict → Type 0
-Finds n l Accepted = Kept l
-Finds n l (Broken k i) = (j : ℕ) × (k ≡ n + j) × First l j i
+Finds n l (Ok u) = Kept l
+Finds n l (Err b) = (j : ℕ) × (b.rule ≡ n + j) × First l j b.row
 
 finds : (n : ℕ) (l : List Rule) → All Tied l → Finds n l (first_broken n l)
 unfolding All first_broken lowest_broken
@@ -52,12 +51,12 @@ finds n (rule ∷ l) (t, ts) = unless_ind (Finds n (rule ∷ l)) _ _ _
     (λ e. on (λ i h. (t i).0 (not_f (rule.test i) (lowest_none rule.rows (λ i. not (rule.test i)) e i h))) (first_broken (suc n) l) (finds (suc n) l ts))
   where
     on : ((i : ℕ) → i < rule.rows → rule.sentence i) → (v : Verdict) → Finds (suc n) l v → Finds n (rule ∷ l) v
-    on f Accepted w = kept
+    on f (Ok u) w = kept
       where
         kept : Kept (rule ∷ l)
         kept zero = f
         kept (suc k) = w k
-    on f (Broken k i) (j, e, w) = (suc j, omega arith, record { lower = lower; inside = w.inside; before = w.before; fails = w.fails })
+    on f (Err b) (j, e, w) = (suc j, omega arith, record { lower = lower; inside = w.inside; before = w.before; fails = w.fails })
       where
         lower : (j' row : ℕ) → j' < suc j → row < (get_or (rule ∷ l) j' no_rule).rows → (get_or (rule ∷ l) j' no_rule).sentence row
         lower zero row h = f row
@@ -66,16 +65,16 @@ finds n (rule ∷ l) (t, ts) = unless_ind (Finds n (rule ∷ l)) _ _ _
 module _ (p : Plan) where
   -- what a verdict says of the plan
   abbrev pub Says : Verdict → Type 0
-  Says Accepted = Sound p
-  Says (Broken k i) = Breaks p k i
+  Says (Ok u) = Sound p
+  Says (Err b) = Breaks p b.rule b.row
 
   pub says : Says (verdict p)
   unfolding All verdict first_broken lowest_broken lowest lowest_from unless rule_of
   says = of (verdict p) (finds 0 (no_rule ∷ rules p) (λ i. (λ e. tt, λ s. refl), tied p))
     where
       of : (v : Verdict) → Finds 0 (no_rule ∷ rules p) v → Says v
-      of Accepted w = record { says = w }
-      of (Broken k i) (j, e, w) = let z : k ≡ j = omega arith in rw z (record { lower = w.lower; inside = w.inside; before = w.before; fails = w.fails })
+      of (Ok u) w = record { says = w }
+      of (Err b) (j, e, w) = let z : b.rule ≡ j = omega arith in rw z (record { lower = w.lower; inside = w.inside; before = w.before; fails = w.fails })
 
   -- no two are first
   pub broken_once : (k i j m : ℕ) → Breaks p k i → Breaks p j m → (k ≡ j) × (i ≡ m)
@@ -98,20 +97,20 @@ module _ (p : Plan) where
   none k i s b = b.fails (s.says k i b.inside)
 
   -- a plan is accepted exactly when every rule says so of each of its rows
-  pub accepted_exactly : (verdict p ≡ Accepted) ↔ Sound p
+  pub accepted_exactly : (verdict p ≡ Ok tt) ↔ Sound p
   accepted_exactly = (λ e. rw e at says, from (verdict p) says)
     where
-      from : (v : Verdict) → Says v → Sound p → v ≡ Accepted
-      from Accepted w s = refl
-      from (Broken k i) w s = absurd (none k i s w)
+      from : (v : Verdict) → Says v → Sound p → v ≡ Ok tt
+      from (Ok u) w s = refl
+      from (Err b) w s = absurd (none b.rule b.row s w)
 
   -- rule k row i is the verdict exactly when rule k is the lowest that is broken and i its lowest row
-  pub verdict_exactly : (k i : ℕ) → (verdict p ≡ Broken k i) ↔ Breaks p k i
+  pub verdict_exactly : (k i : ℕ) → (verdict p ≡ broken k i) ↔ Breaks p k i
   verdict_exactly k i = (λ e. rw e at says, from (verdict p) says)
     where
-      from : (v : Verdict) → Says v → Breaks p k i → v ≡ Broken k i
-      from Accepted w b = absurd (none k i w b)
-      from (Broken j m) w b = let (d, e) = broken_once j m k i w b in rw (d, e)
+      from : (v : Verdict) → Says v → Breaks p k i → v ≡ broken k i
+      from (Ok u) w b = absurd (none k i w b)
+      from (Err b) w q = let (d, e) = broken_once b.rule b.row k i w q in rw (← d, ← e) refl
 
   -- the rule that a verdict names is one of the list
   pub number_listed : rule_number (verdict p) ≤ length (rules p)
@@ -119,9 +118,9 @@ module _ (p : Plan) where
   number_listed = of (verdict p) says
     where
       of : (v : Verdict) → Says v → rule_number v ≤ length (rules p)
-      of Accepted w = omega arith
-      of (Broken k i) w = elim (below? (length (rules p)) k) [
-        | inl h ↦ absurd (not-suc-le-zero (subst (λ (rule : Rule). i < rule.rows) (get_or-eq_default (no_rule ∷ rules p) no_rule h) w.inside))
+      of (Ok u) w = omega arith
+      of (Err b) w = elim (below? (length (rules p)) b.rule) [
+        | inl h ↦ absurd (not-suc-le-zero (subst (λ (rule : Rule). b.row < rule.rows) (get_or-eq_default (no_rule ∷ rules p) no_rule h) w.inside))
         | inr h ↦ h
       ]
 
@@ -131,5 +130,5 @@ module _ (p : Plan) where
   empty_clear_breaks r h e = fails (path_clear p r) (λ t. let w = rw e at ((path_clear_is p r).0 t (get_or (route_of p r).path 0 0) (0, h, refl)) in not-suc-le-zero w.1)
 
   pub empty_entry_breaks : (e : ℕ) → (entry_of p e).clear ≡ [] → entry_clear p e ≡ false
-  unfolding entry_clear has any_of
+  unfolding entry_clear has
   empty_entry_breaks e h = rw h

@@ -1,10 +1,8 @@
 -- The plan rules in the document's order, and the verdict: accepted, or the lowest broken rule with its lowest row.
-use Rattle.std.specs.Prelude.{ℕ, suc, ◌<◌, Bool, true, not, List, [], ◌∷◌, length, get_or}
-use Rattle.laws.specs.declared.Found.{Found}
+use Rattle.rules.specs.declared.Broken.{Broken}
+use Rattle.std.specs.Prelude.{ℕ, suc, ◌<◌, Bool, true, not, List, [], ◌∷◌, length, get_or, Option, Err, Ok, Result}
 use Rattle.laws.specs.Search.{lowest, unless}
 use Rattle.plan.specs.Records.{Plan}
-use Rattle.rules.specs.declared.Verdict.{Verdict}
-use Rattle.rules.specs.declared.Verdict.TheVariants.{Accepted, Broken}
 use Rattle.rules.specs.Rules.{ways_differ, legs_lead, led_once, home_plain, entry_placed, path_linked, path_ends, path_clear, points_listed, points_clear, releases_fit, entry_clear}
 use Rattle.rules.specs.Sentences.{WaysDiffer, LegsLead, LedOnce, HomePlain, EntryPlaced, PathLinked, PathEnds, PathClear, PointsListed, PointsClear, ReleasesFit, EntryClear}
 
@@ -53,14 +51,21 @@ pub record Breaks (p : Plan) (k i : ℕ) : Type 0 where
   pub before : (row : ℕ) → row < i → (rule_of p k).sentence row
   pub fails : (rule_of p k).sentence i → ⊥
 
+-- what checking finds: nothing that is broken, or the lowest broken rule with its lowest row
+abbrev pub Verdict : Type 0
+Verdict = Result Unit Broken
+
+abbrev pub broken : ℕ → ℕ → Verdict
+broken rule row = Err (record { rule = rule; row = row })
+
 -- the lowest row that breaks a rule
-unfoldable pub lowest_broken : Rule → Found
+unfoldable pub lowest_broken : Rule → Option ℕ
 lowest_broken rule = lowest rule.rows (λ i. not (rule.test i))
 
 -- the lowest broken rule of a list, whose first has number k, with its lowest row
 unfoldable pub first_broken : ℕ → List Rule → Verdict
-first_broken k [] = Accepted
-first_broken k (rule ∷ l) = unless (lowest_broken rule) (Broken k) (first_broken (suc k) l)
+first_broken k [] = Ok tt
+first_broken k (rule ∷ l) = unless (lowest_broken rule) (broken k) (first_broken (suc k) l)
 
 unfoldable pub verdict : Plan → Verdict
 verdict p = first_broken 1 (rules p)
@@ -68,9 +73,9 @@ verdict p = first_broken 1 (rules p)
 -- The document's numbers of a verdict: the rule (0: accepted) and the row.
 
 unfoldable pub rule_number : Verdict → ℕ
-rule_number Accepted = 0
-rule_number (Broken rule row) = rule
+rule_number (Ok u) = 0
+rule_number (Err b) = b.rule
 
 unfoldable pub rule_row : Verdict → ℕ
-rule_row Accepted = 0
-rule_row (Broken rule row) = row
+rule_row (Ok u) = 0
+rule_row (Err b) = b.row

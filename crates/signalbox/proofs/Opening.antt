@@ -8,8 +8,7 @@ use borrow.Author.Tests.{lt-ltb, le-ltb}
 use Rattle.plan.specs.Image.{plan_of}
 use Rattle.reading.specs.declared.Form.{Form}
 use Rattle.reading.specs.Reading.{form, parse}
-use Rattle.rules.specs.declared.Verdict.{Verdict}
-use Rattle.rules.specs.Verdict.{verdict}
+use Rattle.rules.specs.Verdict.{verdict, Verdict}
 use Rattle.lines.specs.Lines.{form_line, verdict_line, line_most}
 use Rattle.laws.specs.Written.{Wrote}
 use Rattle.demands.specs.Session.{first_line}

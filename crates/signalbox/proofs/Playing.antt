@@ -228,3 +228,7 @@ module _ {write : Answer → List ℕ} {most : ℕ} {file image : List ℕ} {rea
       let w = l.ready.read in
       let e : take i events ≡ events = take_all i events (omega (arith, l.counted)) in
       played_all write file σ₀ events out₀ l.free (rw w.parses (rw (e, w.shows) at l.state)) (rw w.parses (rw (e, w.shows) at l.written))
+
+  -- all were played, each in one place
+  pub playing_counted : count ≤ i → at ≡ i → Played write (parse file) σ₀ reason events out₀ (record { code = 0; written = count }) σ out
+  playing_counted h e = let z : at ≡ count = omega (arith, e, l.within) in rw (← z) (playing_end h)

@@ -1,16 +1,35 @@
 -- Written by .ci/contracts --write: for each function of src/lib.rt, that any two results that its contract allows are the same.
-use Rattle.std.specs.Prelude.{List, ℕ, ◌≡◌ as ◌is◌, length, ◌≡◌}
-use Rattle.signalbox.proofs.Once.{one_result}
+use Rattle.std.specs.Prelude.{ℕ, ◌≡◌ as ◌is◌, List, length, Result, ◌≡◌}
+use Rattle.signalbox.specs.declared.Outcome.{Outcome}
 use Rattle.laws.specs.Once.{equal_once}
+use Rattle.signalbox.specs.declared.Reason.{Reason}
+use Rattle.signalbox.proofs.Once.{one_result}
 use Rattle.state.specs.Cells.{cells_size, state_in}
 use Rattle.state.proofs.Lent.{lent_once}
 use Rattle.std.proofs.Common.{refl}
-use Rattle.signalbox.specs.declared.Outcome.{Outcome}
 use Rattle.reading.specs.Reading.{parse}
 use Rattle.loading.specs.Storing.{after_reading}
 use Rattle.events.specs.Events.{first_event}
 use Rattle.codes.specs.Codes.{check_code, read_code}
-use Rattle.signalbox.specs.Face.{Feeds, Filed, Finishes, Loaded, Opened, Ran, Started, Stepped, in_the_way}
+use Rattle.signalbox.specs.Face.{Feeds, Filed, Finishes, Loaded, Opened, Ran, Started, Stepped, done, not_done, readiness, reason_code}
+
+pub outcome_done_once : (written : ℕ) (r r₂ : Outcome)
+    → (r ≡ done written)
+    → (r₂ ≡ done written)
+    → r is r₂
+outcome_done_once written r r₂ by_one by_other = equal_once _ _ _ by_one by_other
+
+pub outcome_not_done_once : (reason : Reason) (r r₂ : Outcome)
+    → (r ≡ not_done reason)
+    → (r₂ ≡ not_done reason)
+    → r is r₂
+outcome_not_done_once reason r r₂ by_one by_other = equal_once _ _ _ by_one by_other
+
+pub reason_code_once : (self : Reason) (r r₂ : ℕ)
+    → (r ≡ reason_code self)
+    → (r₂ ≡ reason_code self)
+    → r is r₂
+reason_code_once self r r₂ by_one by_other = equal_once _ _ _ by_one by_other
 
 pub signalbox_load_once : (file image : List ℕ) (r r₂ : ℕ) (image' image'' : List ℕ)
     → (Loaded file image r image')
@@ -44,9 +63,9 @@ pub signalbox_fresh_once : (cells holds unfinished cells' cells'' holds' holds''
     → ((cells' is cells'') × (holds' is holds'')) × (unfinished' is unfinished'')
 signalbox_fresh_once cells holds unfinished cells' cells'' holds' holds'' unfinished' unfinished'' sized sized_other by_one by_other = (let told = one_result.started_once _ _ _ _ by_one by_other in (lent_once _ _ _ _ _ sized sized_other told.0 refl, told.1))
 
-pub ready_once : (file cells holds image : List ℕ) (r r₂ : ℕ) (image' image'' : List ℕ)
-    → ((r ≡ in_the_way (parse file) (state_in cells holds)) × (image' ≡ after_reading (parse file) image))
-    → ((r₂ ≡ in_the_way (parse file) (state_in cells holds)) × (image'' ≡ after_reading (parse file) image))
+pub ready_once : (file cells holds image : List ℕ) (r r₂ : Result Unit Reason) (image' image'' : List ℕ)
+    → ((r ≡ readiness (parse file) (state_in cells holds)) × (image' ≡ after_reading (parse file) image))
+    → ((r₂ ≡ readiness (parse file) (state_in cells holds)) × (image'' ≡ after_reading (parse file) image))
     → (r is r₂) × (image' is image'')
 ready_once file cells holds image r r₂ image' image'' by_one by_other = (equal_once _ _ _ by_one.0 by_other.0, equal_once _ _ _ by_one.1 by_other.1)
 

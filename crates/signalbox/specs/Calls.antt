@@ -1,20 +1,18 @@
 -- A session of calls at the face, each by its contract alone, and each done: `fresh`, `open`, a `feed` for each piece of the input, `finish`. What
 -- they write, one after the other, is what is printed (proofs/Called.antt, as_printed).
-use Rattle.std.specs.Prelude.{◌≡◌, List, [], ◌∷◌, ◌++◌, ℕ, ◌<◌, ◌≤◌, length, take}
+use Rattle.std.specs.Prelude.{◌≡◌, List, [], ◌∷◌, ◌++◌, ℕ, ◌<◌, ◌≤◌, length, take, Ok}
 use Rattle.plan.specs.Limits.{image_size}
 use Rattle.reading.specs.Reading.{got, parse}
 use Rattle.state.specs.declared.State.{State}
 use Rattle.plan.specs.Records.{Plan}
 use Rattle.plan.specs.File.{file_of, Readable}
 use Rattle.plan.specs.Image.{plan_of}
-use Rattle.rules.specs.declared.Verdict.TheVariants.{Accepted}
 use Rattle.rules.specs.Verdict.{verdict}
 use Rattle.events.specs.declared.Event.{Event}
 use Rattle.events.specs.declared.Answer.{Answer}
 use Rattle.demands.specs.Demands.{history, Safe}
 use Rattle.demands.specs.Ours.{ours}
 use Rattle.demands.specs.Session.{printed, whole, FromFresh}
-use Rattle.writing.specs.declared.Written.TheVariants.{Whole}
 use Rattle.codes.specs.Codes.{written_code}
 use Rattle.signalbox.specs.declared.Outcome.{Outcome}
 use Rattle.signalbox.specs.Face.{unless, Loaded, Filed, Started, Stepped, Played, Opened, Feeds, Finishes}
@@ -51,9 +49,9 @@ AsPrinted =
 -- A call is safe: on an accepted plan, where the answers before it led from fresh to the state that it is lent, demand 3 holds of these and its own
 -- (proofs/Called.antt, calls_safe). A run, a feed and a finish are played alike.
 pub record CallsSafe : Type 0 where
-  pub step : (file : List ℕ) {p : Plan} {at : ℕ} {rest : List ℕ} → parse file ≡ got p at rest → verdict p ≡ Accepted → (before : List Answer) (σ : State) → FromFresh p before σ
+  pub step : (file : List ℕ) {p : Plan} {at : ℕ} {rest : List ℕ} → parse file ≡ got p at rest → verdict p ≡ Ok tt → (before : List Answer) (σ : State) → FromFresh p before σ
       → (event : Event) (r : ℕ) (τ : State) → Stepped (parse file) σ event r τ → Safe p (before ++ history ours p σ (event ∷ [])) τ
-  pub run : (file : List ℕ) {p : Plan} {at : ℕ} {rest : List ℕ} → parse file ≡ got p at rest → verdict p ≡ Accepted → (before : List Answer) (σ : State) → FromFresh p before σ
+  pub run : (file : List ℕ) {p : Plan} {at : ℕ} {rest : List ℕ} → parse file ≡ got p at rest → verdict p ≡ Ok tt → (before : List Answer) (σ : State) → FromFresh p before σ
       → (write : Answer → List ℕ) (reason : ℕ) (events : List Event) (out : List ℕ) (r : Outcome) (τ : State) (out' : List ℕ)
       → Played write (parse file) σ reason events out r τ out' → Safe p (before ++ history ours p σ (unless reason events [])) τ
 
@@ -61,8 +59,8 @@ pub record CallsSafe : Type 0 where
 -- loading what was written gives the same image. By the contracts of the two calls alone (proofs/Kept.antt, keeps_plans).
 pub record KeepsPlans : Type 0 where
   pub same_bytes : (file image image' out out' : List ℕ) (r s : ℕ) → Loaded file image r image' → r ≡ 0 → length file ≤ length out → Filed image' out s out'
-      → (s ≡ written_code (Whole (length file))) × (take (length file) out' ≡ file)
-  pub its_file : (image out out' : List ℕ) (s size : ℕ) → length image ≡ image_size → Filed image out s out' → s ≡ written_code (Whole size) → size < 65536
+      → (s ≡ written_code (Ok (length file))) × (take (length file) out' ≡ file)
+  pub its_file : (image out out' : List ℕ) (s size : ℕ) → length image ≡ image_size → Filed image out s out' → s ≡ written_code (Ok size) → size < 65536
       → Readable (plan_of image) × (take size out' ≡ file_of (plan_of image))
-  pub same_image : (image out out' other other' : List ℕ) (r s size : ℕ) → length image ≡ image_size → Filed image out s out' → s ≡ written_code (Whole size) → size < 65536
+  pub same_image : (image out out' other other' : List ℕ) (r s size : ℕ) → length image ≡ image_size → Filed image out s out' → s ≡ written_code (Ok size) → size < 65536
       → Loaded (take size out') other r other' → (r ≡ 0) × (other' ≡ image)

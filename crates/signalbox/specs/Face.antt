@@ -2,7 +2,7 @@
 -- into a file; `fresh` begins; `step` plays one event; `run`
 -- and `feed` play many, `finish` what is unfinished, and all of it or nothing: they differ in which events and in what they write of each answer;
 -- `open` writes the line for the plan.
-use Rattle.std.specs.Prelude.{ℕ, zero, suc, ◌/◌, ◌≡◌, cond, List, [], ◌∷◌, ◌++◌, length, get_or, ltb}
+use Rattle.std.specs.Prelude.{ℕ, zero, suc, ◌/◌, ◌≡◌, cond, List, [], ◌∷◌, ◌++◌, length, get_or, ltb, Result, Ok, Err}
 use Rattle.laws.specs.Lists.{joined}
 use Rattle.plan.specs.Records.{Plan}
 use Rattle.reading.specs.Reading.{Got, form, got, parse}
@@ -20,6 +20,8 @@ use Rattle.laws.specs.Written.{Wrote}
 use Rattle.demands.specs.Ours.{our_writer}
 use Rattle.demands.specs.Session.{answers_of, state_after, first_line, Between, between, due, Carries}
 use Rattle.signalbox.specs.declared.Outcome.{Outcome}
+use Rattle.signalbox.specs.declared.Reason.{Reason}
+use Rattle.signalbox.specs.declared.Reason.TheVariants.{NoPlan, BadState, NoRoom}
 use Rattle.codes.specs.Codes.{answer_code, form_code, read_code, written_code, no_room}
 
 -- A file read into lent memory: 0, and the plan's image; or the form, and the memory as it was.
@@ -36,6 +38,19 @@ pub record Filed (image out : List ℕ) (r : ℕ) (out' : List ℕ) : Type 0 whe
 pub record Started (σ : State) (unfinished : List ℕ) : Type 0 where
   pub state : σ ≡ fresh
   pub none : unfinished ≡ unfinished_cells []
+
+-- What many events hand back: all was done, and so much is written; or nothing was done, and why.
+
+abbrev pub reason_code : Reason → ℕ
+reason_code (NoPlan f) = form_code f
+reason_code BadState = answer_code (Refused IllFormed)
+reason_code NoRoom = no_room
+
+abbrev pub done : ℕ → Outcome
+done n = record { code = 0; written = n }
+
+abbrev pub not_done : Reason → Outcome
+not_done why = record { code = reason_code why; written = 0 }
 
 -- One event. An unreadable plan gives its form, before anything else is looked at.
 
@@ -59,6 +74,11 @@ first_reason (suc n ∷ reasons) = suc n
 unfoldable pub in_the_way : Got Plan → State → ℕ
 in_the_way (form f) σ = form_code f
 in_the_way (got p at rest) σ = cond (well_formed p σ) 0 (answer_code (Refused IllFormed))
+
+-- the same before it is a code
+unfoldable pub readiness : Got Plan → State → Result Unit Reason
+readiness (form f) σ = Err (NoPlan f)
+readiness (got p at rest) σ = cond (well_formed p σ) (Ok tt) (Err BadState)
 
 -- an unfinished event is said to have more than two bytes: 10 too
 unfoldable pub too_long : List ℕ → ℕ

@@ -10,18 +10,17 @@ ghost use Rattle.loading.specs.Storing.{after_reading};
 ghost use Rattle.state.specs.Cells.{state_in};
 ghost use Rattle.events.specs.Events.{first_event};
 ghost use Rattle.codes.specs.Codes.{check_code, read_code};
-ghost use Rattle.signalbox.specs.Face.{Feeds, Filed, Finishes, Loaded, Opened, Ran, Started, Stepped, in_the_way};
+ghost use Rattle.signalbox.specs.Face.{Feeds, Filed, Finishes, Loaded, Opened, Ran, Started, Stepped, done, not_done, readiness, reason_code};
 
 use checking::check;
 use codes::{NO_ROOM, answer_code, form_code, refusal_code, verdict_code, written_code};
 use events::unfinished::{UNFINISHED, keep, waiting, whole_count, whole_event};
 use events::{Event, Refusal, event_at, event_count};
 use lines::{LINE, form_line, verdict_line};
-use lists::wide;
 use loading::load;
 use plan::limits::{IMAGE, TRACKS};
 use play::play;
-use reading::Seen;
+use reading::Form;
 use said::say;
 use state::cells::CELLS;
 use state::form::well_formed;
@@ -36,15 +35,53 @@ pub struct Outcome {
     pub written: usize,
 }
 
+impl Outcome {
+    // All was done, and so much is written.
+    fn done(written: usize) -> Outcome
+        ensures { result ≡ done written }
+    {
+        Outcome { code: 0, written }
+    }
+
+    // Nothing was done.
+    fn not_done(reason: Reason) -> Outcome
+        ensures { result ≡ not_done reason }
+    {
+        Outcome {
+            code: reason.code(),
+            written: 0,
+        }
+    }
+}
+
+// Why nothing was done: no plan is read, the state or what is unfinished is ill formed, there is too little room.
+#[derive(Clone, Copy)]
+enum Reason {
+    NoPlan(Form),
+    BadState,
+    NoRoom,
+}
+
+impl Reason {
+    fn code(self) -> u64
+        ensures { result ≡ reason_code self }
+    {
+        match self {
+            Reason::NoPlan(form) => form_code(form),
+            Reason::BadState => refusal_code(Refusal::IllFormed),
+            Reason::NoRoom => NO_ROOM,
+        }
+    }
+}
+
 // Reads a file into the lent image: 0, or its form's number and offset, and the image is then as it was.
 pub fn signalbox_load(file: &[u8], image: &mut [u8; IMAGE]) -> u64
     ensures { Loaded file.now image.old result image.new }
 {
-    let seen = load(file, image);
-    if let Seen::Refused(form) = seen {
-        return form_code(form);
+    match load(file, image) {
+        Ok(_) => 0,
+        Err(form) => form_code(form),
     }
-    0
 }
 
 // Whether a file is a plan: 0, or its form's number and offset.
@@ -60,8 +97,7 @@ pub fn signalbox_read(file: &[u8]) -> u64
 pub fn signalbox_write(image: &[u8; IMAGE], out: &mut [u8]) -> u64
     ensures { Filed image.now out.old result out.new }
 {
-    let answer = write(image, out);
-    written_code(answer)
+    written_code(write(image, out))
 }
 
 // Whether a file is a plan that is accepted: 200, or its form's number and offset, or the broken rule's number and row.
@@ -69,11 +105,10 @@ pub fn signalbox_check(file: &[u8]) -> u64
     ensures { result ≡ check_code (parse file.now) }
 {
     let mut image = [0u8; IMAGE];
-    let seen = load(file, &mut image);
-    if let Seen::Refused(form) = seen {
-        return form_code(form);
+    match load(file, &mut image) {
+        Ok(_) => verdict_code(check(&image)),
+        Err(form) => form_code(form),
     }
-    verdict_code(check(&image))
 }
 
 // The fresh state, and no byte of an unfinished event, whatever the memory held.
@@ -89,18 +124,22 @@ pub fn signalbox_fresh(
     *unfinished = [0u8; UNFINISHED];
 }
 
-// What is in the way of any event, 0 where nothing is: the plan's form, then 10. Leaves the plan in the lent image.
-fn ready(file: &[u8], cells: &[u8; CELLS], holds: &[u64; TRACKS], image: &mut [u8; IMAGE]) -> u64
-    ensures { (result ≡ in_the_way (parse file.now) (state_in cells.now holds.now)) × (image.new ≡ after_reading (parse file.now) image.old) }
+// Whether anything is in the way of every event: the plan's form, then 10. Leaves the plan in the lent image.
+fn ready(
+    file: &[u8],
+    cells: &[u8; CELLS],
+    holds: &[u64; TRACKS],
+    image: &mut [u8; IMAGE],
+) -> Result<(), Reason>
+    ensures { (result ≡ readiness (parse file.now) (state_in cells.now holds.now)) × (image.new ≡ after_reading (parse file.now) image.old) }
 {
-    let seen = load(file, image);
-    if let Seen::Refused(form) = seen {
-        return form_code(form);
+    if let Err(form) = load(file, image) {
+        return Err(Reason::NoPlan(form));
     }
     if !well_formed(image, cells, holds) {
-        return refusal_code(Refusal::IllFormed);
+        return Err(Reason::BadState);
     }
-    0
+    Ok(())
 }
 
 // One event: the code of its answer, and the state after it. Fewer than three bytes are an incomplete event.
@@ -113,12 +152,10 @@ pub fn signalbox_step(
     ensures { Stepped (parse file.now) (state_in cells.old holds.old) (first_event event.now) result (state_in cells.new holds.new) }
 {
     let mut image = [0u8; IMAGE];
-    let reason = ready(file, cells, holds, &mut image);
-    if reason != 0 {
-        return reason;
+    if let Err(reason) = ready(file, cells, holds, &mut image) {
+        return reason.code();
     }
-    let answer = play(&image, cells, holds, event_at(event, 0));
-    answer_code(answer)
+    answer_code(play(&image, cells, holds, event_at(event, 0)))
 }
 
 // All events of bytes, an incomplete last one too: the code of each answer, and the state after them.
@@ -132,30 +169,18 @@ pub fn signalbox_run(
     ensures { Ran (parse file.now) (state_in cells.old holds.old) events.now answers.old result (state_in cells.new holds.new) answers.new }
 {
     let mut image = [0u8; IMAGE];
-    let reason = ready(file, cells, holds, &mut image);
-    if reason != 0 {
-        return Outcome {
-            code: reason,
-            written: 0,
-        };
+    if let Err(reason) = ready(file, cells, holds, &mut image) {
+        return Outcome::not_done(reason);
     }
     let count = event_count(events);
     if answers.len() < count {
-        return Outcome {
-            code: NO_ROOM,
-            written: 0,
-        };
+        return Outcome::not_done(Reason::NoRoom);
     }
-    let mut i = 0;
-    while i < count {
+    for i in 0..count {
         let answer = play(&image, cells, holds, event_at(events, 3 * i));
         answers[i] = answer_code(answer);
-        i += 1;
     }
-    Outcome {
-        code: 0,
-        written: i,
-    }
+    Outcome::done(count)
 }
 
 // The first line that the program prints: the form, the broken rule or `accepted`.
@@ -163,19 +188,13 @@ pub fn signalbox_open(file: &[u8], out: &mut [u8]) -> Outcome
     ensures { Opened (parse file.now) out.old result out.new }
 {
     if out.len() / LINE < 1 {
-        return Outcome {
-            code: NO_ROOM,
-            written: 0,
-        };
+        return Outcome::not_done(Reason::NoRoom);
     }
     let mut image = [0u8; IMAGE];
-    let seen = load(file, &mut image);
-    if let Seen::Refused(form) = seen {
-        let written = form_line(form, out, 0);
-        return Outcome { code: 0, written };
-    }
-    let written = verdict_line(check(&image), out, 0);
-    Outcome { code: 0, written }
+    Outcome::done(match load(file, &mut image) {
+        Ok(_) => verdict_line(check(&image), out, 0),
+        Err(form) => form_line(form, out, 0),
+    })
 }
 
 // The next bytes of the input, cut anywhere: the line of every event that they make whole, and the state after them; what is left over is
@@ -191,36 +210,23 @@ pub fn signalbox_feed(
     ensures { Feeds (parse file.now) (state_in cells.old holds.old) unfinished.old bytes.now out.old result (state_in cells.new holds.new) unfinished.new out.new }
 {
     let mut image = [0u8; IMAGE];
-    let reason = ready(file, cells, holds, &mut image);
-    if reason != 0 {
-        return Outcome {
-            code: reason,
-            written: 0,
-        };
+    if let Err(reason) = ready(file, cells, holds, &mut image) {
+        return Outcome::not_done(reason);
     }
-    if 2 < wide(unfinished[0]) {
-        let code = refusal_code(Refusal::IllFormed);
-        return Outcome { code, written: 0 };
+    if 2 < unfinished[0] {
+        return Outcome::not_done(Reason::BadState);
     }
     let count = whole_count(unfinished, bytes);
     if out.len() / LINE < count {
-        return Outcome {
-            code: NO_ROOM,
-            written: 0,
-        };
+        return Outcome::not_done(Reason::NoRoom);
     }
     let mut at = 0;
-    let mut i = 0;
-    while i < count {
+    for i in 0..count {
         let event = whole_event(unfinished, bytes, i);
         at = say(&image, cells, holds, event, out, at);
-        i += 1;
     }
     keep(unfinished, bytes);
-    Outcome {
-        code: 0,
-        written: at,
-    }
+    Outcome::done(at)
 }
 
 // The end of the input: the line of an incomplete event where one is unfinished, and none is then.
@@ -234,31 +240,20 @@ pub fn signalbox_finish(
     ensures { Finishes (parse file.now) (state_in cells.old holds.old) unfinished.old out.old result (state_in cells.new holds.new) unfinished.new out.new }
 {
     let mut image = [0u8; IMAGE];
-    let reason = ready(file, cells, holds, &mut image);
-    if reason != 0 {
-        return Outcome {
-            code: reason,
-            written: 0,
-        };
+    if let Err(reason) = ready(file, cells, holds, &mut image) {
+        return Outcome::not_done(reason);
     }
-    if 2 < wide(unfinished[0]) {
-        let code = refusal_code(Refusal::IllFormed);
-        return Outcome { code, written: 0 };
+    if 2 < unfinished[0] {
+        return Outcome::not_done(Reason::BadState);
     }
     if waiting(unfinished) == 0 {
         *unfinished = [0u8; UNFINISHED];
-        return Outcome {
-            code: 0,
-            written: 0,
-        };
+        return Outcome::done(0);
     }
     if out.len() / LINE < 1 {
-        return Outcome {
-            code: NO_ROOM,
-            written: 0,
-        };
+        return Outcome::not_done(Reason::NoRoom);
     }
     let written = say(&image, cells, holds, Event::Unknown, out, 0);
     *unfinished = [0u8; UNFINISHED];
-    Outcome { code: 0, written }
+    Outcome::done(written)
 }

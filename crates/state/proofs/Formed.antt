@@ -163,59 +163,6 @@ unfolding well_formed
 of_tests p σ t =
     rw (t.trains, t.trains_end, t.lies_end, t.holds_end, t.signals_end, t.routes_end, t.points, t.greens, t.lies)
 
--- A test that the code passed, at the count that it has.
-passed : (f : ℕ → Bool) {k n : ℕ} {r : Bool} → k ≡ n → r ≡ f k → not r ≡ false → Is (f n)
-passed f q e x = rw (← q, ← e) (not_f _ x)
-
--- The code's way through the tests: the first that fails answers, and the last answers for the rest.
-module _ (p : Plan) (σ : State) where
-  fails : (Tests p σ → ⊥) → false ≡ well_formed p σ
-  fails h = go (well_formed p σ) refl
-    where
-      go : (b : Bool) → well_formed p σ ≡ b → false ≡ b
-      go true e = absurd (h (tests p σ e))
-      go false e = refl
-
-  pub fail_trains : (r : Bool) → r ≡ once σ.trains → not r ≡ true → false ≡ well_formed p σ
-  fail_trains r e n = fails (λ t. clash t.trains (sym e ∙ not_t r n))
-
-  pub fail_trains_end : (k : ℕ) (r : Bool) → k ≡ length p.tracks → r ≡ empty_from k σ.trains → not r ≡ true → false ≡ well_formed p σ
-  fail_trains_end k r q e n = fails (λ t. clash t.trains_end (sym (rw q at e) ∙ not_t r n))
-
-  pub fail_lies_end : (k : ℕ) (r : Bool) → k ≡ length p.tracks → r ≡ empty_from k σ.lies → not r ≡ true → false ≡ well_formed p σ
-  fail_lies_end k r q e n = fails (λ t. clash t.lies_end (sym (rw q at e) ∙ not_t r n))
-
-  pub fail_holds_end : (k : ℕ) (r : Bool) → k ≡ length p.tracks → r ≡ empty_from k σ.holds → not r ≡ true → false ≡ well_formed p σ
-  fail_holds_end k r q e n = fails (λ t. clash t.holds_end (sym (rw q at e) ∙ not_t r n))
-
-  pub fail_signals_end : (k : ℕ) (r : Bool) → k ≡ length p.signals → r ≡ empty_from k σ.signals → not r ≡ true → false ≡ well_formed p σ
-  fail_signals_end k r q e n = fails (λ t. clash t.signals_end (sym (rw q at e) ∙ not_t r n))
-
-  pub fail_routes_end : (k : ℕ) (r : Bool) → k ≡ length p.routes → r ≡ all_of (within k) σ.holds → not r ≡ true → false ≡ well_formed p σ
-  fail_routes_end k r q e n = fails (λ t. clash t.routes_end (sym (rw q at e) ∙ not_t r n))
-
-  pub fail_points : (r : Bool) → r ≡ points_only p σ.lies σ.holds → not r ≡ true → false ≡ well_formed p σ
-  fail_points r e n = fails (λ t. clash t.points (sym e ∙ not_t r n))
-
-  pub fail_greens : (r : Bool) → r ≡ greens_name p σ.signals → not r ≡ true → false ≡ well_formed p σ
-  fail_greens r e n = fails (λ t. clash t.greens (sym e ∙ not_t r n))
-
-  pub last_lies : {a b c d f g h i r : Bool} {k l m : ℕ} → k ≡ length p.tracks → l ≡ length p.signals → m ≡ length p.routes
-      → a ≡ once σ.trains → not a ≡ false → b ≡ empty_from k σ.trains → not b ≡ false → c ≡ empty_from k σ.lies → not c ≡ false
-      → d ≡ empty_from k σ.holds → not d ≡ false → f ≡ empty_from l σ.signals → not f ≡ false → g ≡ all_of (within m) σ.holds → not g ≡ false
-      → h ≡ points_only p σ.lies σ.holds → not h ≡ false → i ≡ greens_name p σ.signals → not i ≡ false → r ≡ lies_known σ.lies → r ≡ well_formed p σ
-  unfolding well_formed
-  last_lies kt ks kr ea na eb nb ec nc ed nd ef nf eg ng eh nh ei ni er =
-      let pa = sym ea ∙ not_f _ na in
-      let pb = passed (λ k. empty_from k σ.trains) kt eb nb in
-      let pc = passed (λ k. empty_from k σ.lies) kt ec nc in
-      let pd = passed (λ k. empty_from k σ.holds) kt ed nd in
-      let pf = passed (λ k. empty_from k σ.signals) ks ef nf in
-      let pg = passed (λ k. all_of (within k) σ.holds) kr eg ng in
-      let ph = sym eh ∙ not_f _ nh in
-      let pi = sym ei ∙ not_f _ ni in
-      er ∙ sym (rw (pa, pb, pc, pd, pf, pg, ph, pi))
-
 -- The sentences of a state that passes.
 pub formed : (p : Plan) (σ : State) → Is (well_formed p σ) → WellFormed p σ
 unfolding train_at lie_at held_by shown_at greens_name named_at lies_known
@@ -307,3 +254,24 @@ fresh_formed p = record {
   where
     none : (r q : ℕ) → Is (member (get_or (replicate most_tracks 0) q 0) r) → ⊥
     none r q m = member_some _ r m (empty_cell most_tracks q)
+
+-- The code's way through the tests, where each is a branch of its own: the last answers for the rest.
+passed : (f : ℕ → Bool) {k n : ℕ} {r : Bool} → k ≡ n → r ≡ f k → not r ≡ false → Is (f n)
+passed f q e x = rw (← q, ← e) (not_f _ x)
+
+module _ (p : Plan) (σ : State) where
+  pub last_lies : {a b c d f g h i r : Bool} {k l m : ℕ} → k ≡ length p.tracks → l ≡ length p.signals → m ≡ length p.routes
+      → a ≡ once σ.trains → not a ≡ false → b ≡ empty_from k σ.trains → not b ≡ false → c ≡ empty_from k σ.lies → not c ≡ false
+      → d ≡ empty_from k σ.holds → not d ≡ false → f ≡ empty_from l σ.signals → not f ≡ false → g ≡ all_of (within m) σ.holds → not g ≡ false
+      → h ≡ points_only p σ.lies σ.holds → not h ≡ false → i ≡ greens_name p σ.signals → not i ≡ false → r ≡ lies_known σ.lies → r ≡ well_formed p σ
+  unfolding well_formed
+  last_lies kt ks kr ea na eb nb ec nc ed nd ef nf eg ng eh nh ei ni er =
+      let pa = sym ea ∙ not_f _ na in
+      let pb = passed (λ k. empty_from k σ.trains) kt eb nb in
+      let pc = passed (λ k. empty_from k σ.lies) kt ec nc in
+      let pd = passed (λ k. empty_from k σ.holds) kt ed nd in
+      let pf = passed (λ k. empty_from k σ.signals) ks ef nf in
+      let pg = passed (λ k. all_of (within k) σ.holds) kr eg ng in
+      let ph = sym eh ∙ not_f _ nh in
+      let pi = sym ei ∙ not_f _ ni in
+      er ∙ sym (rw (pa, pb, pc, pd, pf, pg, ph, pi))

@@ -1,6 +1,4 @@
 pub mod Holds
-pub mod Walks
-pub mod Tests
 pub mod Formed
 pub mod Parts
 pub mod Lent

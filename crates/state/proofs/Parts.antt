@@ -1,23 +1,18 @@
 -- Parts of cells: what stands at a place of one, and what each is when one part comes back. Assumes nothing.
 use mathlib.Core.Path.{◌≡◌, sym, ap, ◌∙◌}
 use mathlib.Core.List.{List, [], ◌∷◌, ◌++◌}
-use Prim.Native.Nat.{ℕ, zero, suc, ◌+◌, ◌<◌, ◌≤◌, ◌-◌}
+use Prim.Native.Nat.{ℕ, zero, suc, ◌+◌, ◌≤◌, ◌-◌}
 use native.Mathlib.Omega.{arith}
-use lib.ListN.{length, get_or, take, drop, length-append, length-drop}
+use lib.ListN.{length, take, drop, length-append, length-drop}
 use native.Mathlib.Nat.{zero-add}
-use lib.Seq.{get_or-take, get_or-drop, take_at, drop_at, take-nil, take-take, drop-drop, length-take-le}
+use lib.Seq.{take_at, drop_at, take-nil, take-take, drop-drop, length-take-le}
 use borrow.Rule.Slice.PartMut.{put_mid, take_put, drop_put}
 use Rattle.state.specs.Cells.{part}
 
-module _ (from size : ℕ) (l : List ℕ) where
-  pub part_at : (i : ℕ) → i < size → get_or l (from + i) 0 ≡ get_or (part from size l) i 0
-  unfolding part
-  part_at i h = sym (get_or-take size (drop from l) i 0 h ∙ get_or-drop from l i 0)
-
-  -- the part that the code takes
-  pub part_taken : (end : ℕ) → end ≡ from + size → take (end - from) (drop from l) ≡ part from size l
-  unfolding part
-  part_taken end e = let z : end - from ≡ size = omega arith in rw z
+-- a part that the cells have room for has its size
+pub part_long : (from size : ℕ) (l ys : List ℕ) → ys ≡ part from size l → from + size ≤ length l → length ys ≡ size
+unfolding part
+part_long from size l ys e h = ap length e ∙ length-take-le size (drop from l) (rw (length-drop from l) (omega arith))
 
 -- a part is a part of the cells up to its end
 from_front : (m n : ℕ) (l : List ℕ) → take n (drop m l) ≡ drop m (take (m + n) l)

@@ -1,10 +1,16 @@
 -- Written by .ci/contracts --write: for each function of src/lib.rt, that any two results that its contract allows are the same.
+use Rattle.std.specs.Prelude.{ℕ, ◌≡◌ as ◌is◌, Bool, ◌≡◌}
 use Rattle.state.specs.declared.HoldSet.{HoldSet}
-use Rattle.std.specs.Prelude.{ℕ, Bool, ◌≡◌ as ◌is◌, ◌≡◌}
-use Rattle.laws.specs.Once.{equal_once}
 use Rattle.state.proofs.Lent.{routes_once}
+use Rattle.laws.specs.Once.{equal_once}
 use Rattle.laws.specs.Sets.{member, excluding}
 use Rattle.state.specs.Holds.{adding, empty, within}
+
+pub holdset_from_once : (routes : ℕ) (r r₂ : HoldSet)
+    → (r.routes ≡ routes)
+    → (r₂.routes ≡ routes)
+    → r is r₂
+holdset_from_once routes r r₂ by_one by_other = routes_once _ _ _ by_one by_other
 
 pub holdset_has_once : (self : HoldSet) (route : ℕ) (r r₂ : Bool)
     → (r ≡ member self.routes route)

@@ -1,11 +1,11 @@
 -- Written by .ci/contracts --write: for each function of src/form.rt, that any two results that its contract allows are the same.
-use Rattle.std.specs.Prelude.{List, ℕ, Bool, ◌≡◌ as ◌is◌, ◌≡◌}
+use Rattle.std.specs.Prelude.{List, ℕ, Bool, ◌≡◌ as ◌is◌, ◌≡◌, ◌&&◌, length}
 use Rattle.laws.specs.Once.{equal_once}
-use Rattle.laws.specs.Lists.{all_of}
+use Rattle.laws.specs.Lists.{all_of, empty_from}
 use Rattle.plan.specs.Image.{plan_of}
 use Rattle.state.specs.Holds.{within}
 use Rattle.state.specs.State.{again, once, point_or, points_only, green_names, greens_name, well_formed}
-use Rattle.state.specs.Cells.{lies_in, signals_in, state_in}
+use Rattle.state.specs.Cells.{trains_in, lies_in, signals_in, state_in}
 
 pub again_once : (trains : List ℕ) (track : ℕ) (r r₂ : Bool)
     → (r ≡ again trains track)
@@ -24,6 +24,12 @@ pub all_within_once : (routes : ℕ) (holds : List ℕ) (r r₂ : Bool)
     → (r₂ ≡ all_of (within routes) holds)
     → r is r₂
 all_within_once routes holds r r₂ by_one by_other = equal_once _ _ _ by_one by_other
+
+pub empty_beyond_once : (image cells holds : List ℕ) (r r₂ : Bool)
+    → (r ≡ (empty_from (length (plan_of image).tracks) (trains_in cells) && empty_from (length (plan_of image).tracks) (lies_in cells) && empty_from (length (plan_of image).tracks) holds && empty_from (length (plan_of image).signals) (signals_in cells)))
+    → (r₂ ≡ (empty_from (length (plan_of image).tracks) (trains_in cells) && empty_from (length (plan_of image).tracks) (lies_in cells) && empty_from (length (plan_of image).tracks) holds && empty_from (length (plan_of image).signals) (signals_in cells)))
+    → r is r₂
+empty_beyond_once image cells holds r r₂ by_one by_other = equal_once _ _ _ by_one by_other
 
 pub point_or_once : (image cells holds : List ℕ) (track : ℕ) (r r₂ : Bool)
     → (r ≡ point_or (plan_of image) (lies_in cells) holds track)

@@ -1,5 +1,7 @@
 // The cells of a state: trains, lies and signals one after the other. Holds are wider and stand apart. The readers of one cell alone know where it
 // stands; other rooms read through them, or are lent a part.
+#![tactic(auto, unfolding(crate::specs::Cells::part, crate::specs::Cells::trains_in, crate::specs::Cells::lies_in, crate::specs::Cells::signals_in))]
+
 ghost use Rattle.std.specs.Prelude.{◌≡◌, ◌<◌, get_or};
 ghost use Rattle.plan.specs.Limits.{most_tracks, most_signals};
 ghost use Rattle.state.specs.Cells.{offset_table, trains_in, lies_in, signals_in};
@@ -27,41 +29,38 @@ pub fn train_at(cells: &[u8; CELLS], track: usize) -> u8
     requires { track < most_tracks }
     ensures { result ≡ get_or (trains_in cells.now) track 0 }
 {
-    cells[TRAINS_FROM + track]
+    trains_of(cells)[track]
 }
 
 pub fn lie_at(cells: &[u8; CELLS], point: usize) -> u8
     requires { point < most_tracks }
     ensures { result ≡ get_or (lies_in cells.now) point 0 }
 {
-    cells[LIES_FROM + point]
+    lies_of(cells)[point]
 }
 
 pub fn shown_at(cells: &[u8; CELLS], signal: usize) -> u8
     requires { signal < most_signals }
     ensures { result ≡ get_or (signals_in cells.now) signal 0 }
 {
-    cells[SIGNALS_FROM + signal]
+    signals_of(cells)[signal]
 }
 
 // Each part whole.
 pub fn trains_of(cells: &[u8; CELLS]) -> &[u8]
     ensures { result.now ≡ trains_in cells.now }
 {
-    let all = &cells[..];
-    &all[TRAINS_FROM..LIES_FROM]
+    &cells[TRAINS_FROM..LIES_FROM]
 }
 
 pub fn lies_of(cells: &[u8; CELLS]) -> &[u8]
     ensures { result.now ≡ lies_in cells.now }
 {
-    let all = &cells[..];
-    &all[LIES_FROM..SIGNALS_FROM]
+    &cells[LIES_FROM..SIGNALS_FROM]
 }
 
 pub fn signals_of(cells: &[u8; CELLS]) -> &[u8]
     ensures { result.now ≡ signals_in cells.now }
 {
-    let all = &cells[..];
-    &all[SIGNALS_FROM..CELLS]
+    &cells[SIGNALS_FROM..CELLS]
 }

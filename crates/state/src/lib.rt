@@ -29,42 +29,42 @@ pub struct HoldSet {
 // How many routes a set has room for.
 const ROOM: usize = 64;
 
+// The holds of a state are such numbers, each taken as a set.
+impl From<u64> for HoldSet {
+    ghost from_gives = { λ routes set. set.routes ≡ routes };
+
+    fn from(routes: u64) -> HoldSet {
+        HoldSet { routes }
+    }
+}
+
 impl HoldSet {
     pub fn has(self, route: usize) -> bool
         ensures { result ≡ member self.routes route }
     {
-        if ROOM <= route {
-            return false;
-        }
-        (self.routes >> route) % 2 == 1
+        route < ROOM && (self.routes >> route) % 2 == 1
     }
 
     // A route that there is no room for is left out.
     pub fn with(self, route: usize) -> HoldSet
         ensures { result.routes ≡ adding self.routes route }
     {
-        if ROOM <= route {
-            return self;
+        if route < ROOM && !self.has(route) {
+            return HoldSet::from(self.routes + (1 << route));
         }
-        if self.has(route) {
-            return self;
-        }
-        HoldSet {
-            routes: self.routes + (1u64 << route),
-        }
+        self
     }
 
     pub fn without(self, route: usize) -> HoldSet
         ensures { result.routes ≡ excluding self.routes route }
     {
         if self.has(route) {
-            return HoldSet {
-                routes: self.routes - (1u64 << route),
-            };
+            return HoldSet::from(self.routes - (1 << route));
         }
         self
     }
 
+    #[tactic(auto, unfolding(crate::specs::Holds::empty))]
     pub fn is_empty(self) -> bool
         ensures { result ≡ empty self.routes }
     {
@@ -75,9 +75,6 @@ impl HoldSet {
     pub fn within(self, routes: usize) -> bool
         ensures { result ≡ within routes self.routes }
     {
-        if ROOM <= routes {
-            return true;
-        }
-        self.routes >> routes == 0
+        ROOM <= routes || self.routes >> routes == 0
     }
 }

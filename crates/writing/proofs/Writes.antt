@@ -5,13 +5,13 @@ use Prim.Native.Nat.{ℕ, ◌+◌, ◌-◌, ◌<◌, ◌≤◌}
 use native.Mathlib.Omega.{arith}
 use native.Mathlib.Nat.{zero-add}
 use native.Mathlib.Numerals.{add-one}
-use lib.ListN.{length, get_or, take, drop, set, length-append, length-drop, length-take, length-set, drop_of_length-le}
+use lib.ListN.{length, get_or, take, drop, set, length-append, length-set, drop_of_length-le}
 use lib.Seq.{drop-cons}
 use borrow.Rule.Slice.PartMut.{put_mid}
 use Rattle.laws.specs.Written.{Wrote, wrote_long, wrote_then, wrote_byte, wrote_part}
 use Rattle.laws.specs.Lists.{joined}
-use Rattle.plan.specs.Records.{Route, Entry, Plan}
-use Rattle.plan.specs.File.{counted_file, entry_file, file_of, list_file, release_file, route_file, track_file}
+use Rattle.plan.specs.Records.{Plan}
+use Rattle.plan.specs.File.{counted_file, entry_file, file_of, list_file, route_file, track_file}
 
 -- the part of the memory that starts at an offset, and the memory once the part is back
 abbrev pub part_from : ℕ → List ℕ → List ℕ
@@ -44,20 +44,24 @@ module _ {A : Type 0} {file : A → List ℕ} {all : List A} {before : List ℕ}
   unfolding joined
   left_none w = rw (sym (append-nil w.done) ∙ w.both) at w.wrote
 
-  -- The next thing: it has room in the part that starts where it is to stand, and what comes back with its file at the front leaves what is behind it.
+  -- The next thing: it has room where it is to stand, and once it stands there what is behind it is left. It may be written into the part of the memory that
+  -- starts there, which comes back with its file at the front.
   module _ {a : A} {rest : List A} {now : List ℕ} {at : ℕ} (w : Left file all before from (a ∷ rest) now at) where
-    pub left_part_room : length (file a) ≤ length (part_from at now)
+    pub left_fits : at + length (file a) ≤ length now
     unfolding joined
-    left_part_room = simp (length-take, length-drop) (omega (arith, left_room w, length-append (file a) (joined file rest)))
+    left_fits = omega (arith, left_room w, length-append (file a) (joined file rest))
 
-    pub left_part : {bytes part : List ℕ} {r : ℕ} → bytes ≡ file a → Wrote bytes (part_from at now) 0 part r → Left file all before from rest (part_back at now part) (at + r)
+    pub left_next : {after : List ℕ} {next : ℕ} → Wrote (file a) now at after next → Left file all before from rest after next
     unfolding joined
-    left_part e p = record {
+    left_next p = record {
       done = w.done ++ file a;
       both = append_assoc w.done (file a) (joined file rest) ∙ w.both;
-      wrote = wrote_then w.wrote (wrote_part (left_within w) (rw e at p));
+      wrote = wrote_then w.wrote p;
       room = w.room;
     }
+
+    pub left_part : {bytes part : List ℕ} {r : ℕ} → bytes ≡ file a → Wrote bytes (part_from at now) 0 part r → Left file all before from rest (part_back at now part) (at + r)
+    left_part e p = left_next (wrote_part (left_within w) (rw e at p))
 
   -- A loop over the things, at its place i: the thing there is the next, and past the end nothing is left.
   module _ (i : ℕ) {n : ℕ} {now : List ℕ} {at : ℕ} (w : Left file all before from (drop i all) now at) (count : n ≡ length all) where
@@ -82,46 +86,25 @@ module _ (before : List ℕ) {a b : ℕ} (e : b ≡ a) where
       → Left file all (set before 0 b) 1 all (set before 0 b) 1
   byte_start made h = left_start (rw length-set (omega (arith, ap length made)))
 
-  pub byte_within : {A : Type 0} {file : A → List ℕ} {all rest : List A} {now : List ℕ} {at : ℕ} → Left file all (set before 0 b) 1 rest now at → at ≤ length before
-  byte_within w = omega (arith, w.wrote.within, length-set before 0 b)
-
   pub byte_end : {bytes now whole : List ℕ} {at : ℕ} → a ∷ bytes ≡ whole → Wrote bytes (set before 0 b) 1 now at → Wrote whole before 0 now at
   byte_end made w = rw (← made, ← e) (wrote_then (wrote_byte b before 0 (omega (arith, w.within, w.ends, length-set before 0 b))) w)
 
--- A list, and things after their count, as the plan has them: what `put_list` and `put_counted` ask, and what `put_counted` writes.
+-- a byte, by what it is
+pub byte_wrote : (before : List ℕ) (at : ℕ) {a b : ℕ} → b ≡ a → at < length before → Wrote (a ∷ []) before at (set before at b) (at + 1)
+byte_wrote before at {a} {b} e h = rw (← e) (wrote_byte b before at h)
 
-pub list_asked : {l list : List ℕ} {room : ℕ} → l ≡ list → length list < 256 → length (list_file list) ≤ room → (length l < 256) × (length (list_file l) ≤ room)
-list_asked e few h = rw e (few, h)
+-- things after their count, as the plan has them
+pub counted_is : {A : Type 0} (file : A → List ℕ) (l : List A) {n : ℕ} {bytes : List ℕ} → n ≡ length l → bytes ≡ joined file l → n ∷ bytes ≡ counted_file file l
+unfolding counted_file
+counted_is file l e f = rw (e, f)
 
-module _ {A : Type 0} (file : A → List ℕ) (l : List A) {n : ℕ} {bytes : List ℕ} (e : n ≡ length l) (f : bytes ≡ joined file l) where
-  pub counted_is : n ∷ bytes ≡ counted_file file l
-  unfolding counted_file
-  counted_is = rw (e, f)
-
-  pub counted_asked : {room : ℕ} → length l < 256 → length (counted_file file l) ≤ room → (n < 256) × (1 + length bytes ≤ room)
-  counted_asked few h = (omega arith, omega (arith, ap length counted_is))
-
--- The files that a route's, an entry's and a plan's file are made of: each stands for itself.
+-- The files that a plan's file is made of: each stands for itself.
 
 abbrev pub itself : List ℕ → List ℕ
 itself bytes = bytes
 
-abbrev pub route_parts : Route → List (List ℕ)
-route_parts r = list_file r.path ∷ list_file r.clear ∷ list_file r.normal ∷ list_file r.reverse ∷ counted_file release_file r.releases ∷ []
-
-abbrev pub entry_parts : Entry → List (List ℕ)
-entry_parts e = list_file e.clear ∷ []
-
 abbrev pub plan_parts : Plan → List (List ℕ)
 plan_parts p = counted_file track_file p.tracks ∷ list_file p.signals ∷ counted_file route_file p.routes ∷ counted_file entry_file p.entries ∷ []
-
-pub route_parts_lem : (r : Route) → r.start ∷ joined itself (route_parts r) ≡ route_file r
-unfolding route_file joined
-route_parts_lem r = simp append-nil
-
-pub entry_parts_lem : (e : Entry) → e.track ∷ joined itself (entry_parts e) ≡ entry_file e
-unfolding entry_file joined
-entry_parts_lem e = simp append-nil
 
 pub plan_parts_lem : (p : Plan) → joined itself (plan_parts p) ≡ file_of p
 unfolding file_of joined

@@ -5,7 +5,7 @@ mod sections;
 mod size;
 
 ghost use Rattle.std.specs.Prelude.{◌≡◌, length};
-ghost use Rattle.writing.specs.Writing.{after_writing, written};
+ghost use Rattle.writing.specs.Writing.{after_writing, unwritten_number, written};
 
 use images::stands;
 use plan::limits::IMAGE;
@@ -19,35 +19,37 @@ pub enum Unwritten {
     NoRoom,
 }
 
-// What comes of writing: nothing is written, or the whole file, with its length.
-#[derive(Clone, Copy)]
-pub enum Written {
-    Refused(Unwritten),
-    Whole(usize),
+impl Unwritten {
+    pub fn number(self) -> usize
+        ensures { result ≡ unwritten_number self }
+    {
+        match self {
+            Self::NoFile => 7,
+            Self::NoRoom => 6,
+        }
+    }
 }
 
 // The answer for so much room. It looks, and can't write.
-fn judged(image: &[u8; IMAGE], room: usize) -> Written
+#[tactic(auto, unfolding(crate::specs::Writing::written, crate::specs::Writing::file_in))]
+fn judged(image: &[u8; IMAGE], room: usize) -> Result<usize, Unwritten>
     ensures { result ≡ written image.now room }
 {
     if !stands(image) {
-        return Written::Refused(Unwritten::NoFile);
+        return Err(Unwritten::NoFile);
     }
     let size = file_size(image);
     if room < size {
-        return Written::Refused(Unwritten::NoRoom);
+        return Err(Unwritten::NoRoom);
     }
-    Written::Whole(size)
+    Ok(size)
 }
 
 // Writes the file at the front of the lent memory, and leaves what is past it. A refusal leaves all of it.
-pub fn write(image: &[u8; IMAGE], out: &mut [u8]) -> Written
+pub fn write(image: &[u8; IMAGE], out: &mut [u8]) -> Result<usize, Unwritten>
     ensures { (result ≡ written image.now (length out.old)) × (out.new ≡ after_writing image.now (written image.now (length out.old)) out.old) }
 {
-    let answer = judged(image, out.len());
-    let Written::Whole(_) = answer else {
-        return answer;
-    };
+    let size = judged(image, out.len())?;
     write_sections(image, out);
-    answer
+    Ok(size)
 }

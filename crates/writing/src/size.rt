@@ -1,7 +1,8 @@
 // How many bytes the file of a plan in memory has.
 ghost use Rattle.std.specs.Prelude.{◌≡◌, length};
-ghost use Rattle.plan.specs.Records.{route_of};
-ghost use Rattle.plan.specs.File.{counted_file, entry_file, file_of, route_file};
+ghost use Rattle.laws.specs.Lists.{joined};
+ghost use Rattle.plan.specs.Records.{route_of, entry_of};
+ghost use Rattle.plan.specs.File.{entry_file, file_of, route_file};
 ghost use Rattle.plan.specs.Image.{plan_of};
 
 use plan::image::{
@@ -11,6 +12,7 @@ use plan::image::{
 use plan::limits::{IMAGE, TRACK_SIZE};
 
 // A route: its start signal, the counts of its five lists, and these.
+#[tactic(auto, using(crate::proofs::Lengths::route_shown))]
 fn route_size(image: &[u8; IMAGE], route: usize) -> usize
     ensures { result ≡ length (route_file (route_of (plan_of image.now) route)) }
 {
@@ -19,37 +21,37 @@ fn route_size(image: &[u8; IMAGE], route: usize) -> usize
     6 + tracks + points + releases_of(image, route).len()
 }
 
-// The routes after their count.
+// An entry: its track, the count of its clear list, and that.
+#[tactic(auto, unfolding(plan::specs::File::entry_file, plan::specs::File::list_file))]
+fn entry_size(image: &[u8; IMAGE], entry: usize) -> usize
+    ensures { result ≡ length (entry_file (entry_of (plan_of image.now) entry)) }
+{
+    2 + entry_clear(image, entry).len()
+}
+
+// The routes, one after another.
 fn routes_size(image: &[u8; IMAGE]) -> usize
-    ensures { result ≡ length (counted_file route_file (plan_of image.now).routes) }
+    ensures { result ≡ length (joined route_file (plan_of image.now).routes) }
 {
-    let mut size = 1;
-    let mut i = 0;
-    while i < routes(image) {
-        size += route_size(image, i);
-        i += 1;
-    }
-    size
+    (0..routes(image))
+        .map(|route| route_size(image, route))
+        .sum()
 }
 
-// The entries after their count: of each its track, a count and the clear list.
+// The entries, one after another.
 fn entries_size(image: &[u8; IMAGE]) -> usize
-    ensures { result ≡ length (counted_file entry_file (plan_of image.now).entries) }
+    ensures { result ≡ length (joined entry_file (plan_of image.now).entries) }
 {
-    let mut size = 1;
-    let mut i = 0;
-    while i < entries(image) {
-        let clear = entry_clear(image, i);
-        size += 2 + clear.len();
-        i += 1;
-    }
-    size
+    (0..entries(image))
+        .map(|entry| entry_size(image, entry))
+        .sum()
 }
 
-// The whole file.
+// The whole file: four counts, and what they count.
+#[tactic(auto, using(crate::proofs::Lengths::plan_most, crate::proofs::Lengths::plan_long))]
 pub fn file_size(image: &[u8; IMAGE]) -> usize
     ensures { result ≡ length (file_of (plan_of image.now)) }
 {
-    let layout = 1 + TRACK_SIZE * tracks(image) + (1 + signals(image));
-    layout + routes_size(image) + entries_size(image)
+    let layout = TRACK_SIZE * tracks(image) + signals(image);
+    4 + layout + routes_size(image) + entries_size(image)
 }

@@ -4,9 +4,6 @@ use Rattle.state.specs.Cells.{state_in}
 use Rattle.bench.proofs.Served.{Serving}
 use Rattle.bench.proofs.serve.Given as goal
 
-abbrev pub invariant-loop-turns : goal.invariant-loop-turns
-invariant-loop-turns g l =
-    Serving (parse l.plan) (state_in l.initial.cells l.initial.holds) l.initial.unfinished l.total l.turns (state_in l.cells l.holds) l.unfinished
-
-abbrev pub decreases-loop-turns : goal.decreases-loop-turns
-decreases-loop-turns g l = l.turns
+abbrev pub invariant-loop : goal.invariant-loop
+invariant-loop g l =
+    Serving (parse l.plan) (state_in l.initial.cells l.initial.holds) l.initial.unfinished l.total l.counter (state_in l.cells l.holds) l.unfinished

@@ -4,10 +4,10 @@ use Rattle.rules.specs.Verdict.{rule_number, rule_row}
 use Rattle.codes.specs.Codes.{packed, verdict_code}
 use Rattle.codes.proofs.verdict_code.Goals as goal
 
-pub returns-in-Accepted : goal.returns-in-Accepted
+pub returns-in-Ok : goal.returns-in-Ok
 unfolding verdict_code packed rule_number rule_row
-returns-in-Accepted c = rw c.in-Accepted.is
+returns-in-Ok c = rw c.in-Ok.is
 
-pub returns-in-Broken : goal.returns-in-Broken
+pub returns-in-Err : goal.returns-in-Err
 unfolding verdict_code packed rule_number rule_row
-returns-in-Broken c = rw c.in-Broken.is (omega (arith, c.pack.ensures))
+returns-in-Err c = rw c.in-Err.is (omega (arith, c.pack.ensures))

@@ -3,10 +3,10 @@ use native.Mathlib.Omega.{arith}
 use Rattle.codes.specs.Codes.{written_code}
 use Rattle.codes.proofs.written_code.Goals as goal
 
-pub returns-in-Refused : goal.returns-in-Refused
+pub returns-in-Err : goal.returns-in-Err
 unfolding written_code
-returns-in-Refused c = rw c.in-Refused.is (omega (arith, c.unwritten_code.ensures))
+returns-in-Err c = rw c.in-Err.is (omega (arith, c.number.ensures))
 
-pub returns-in-Whole : goal.returns-in-Whole
+pub returns-in-Ok : goal.returns-in-Ok
 unfolding written_code
-returns-in-Whole c = rw c.in-Whole.is c.offset_code.ensures
+returns-in-Ok c = rw c.in-Ok.is c.offset_code.ensures

@@ -1,12 +1,12 @@
 -- `images::zeros_in`: the offsets are in order and within, and the part between them is empty.
-use Rattle.images.proofs.Zeros.{zeros_before, zeros_beyond, zeros_asked}
+use Rattle.std.specs.Prelude.{◌≡◌, false, MatchOption}
+use Rattle.std.proofs.Common.{rules}
+use Rattle.laws.specs.Lists.{empty_from}
+use Rattle.images.proofs.Zeros.{zeros_between}
 use Rattle.images.proofs.zeros_in.Goals as goal
 
-pub returns-then-to-from : goal.returns-then-to-from
-returns-then-to-from c = zeros_before _ _ _ c.if-to-from.true
-
-pub returns-then-bytes-to : goal.returns-then-bytes-to
-returns-then-bytes-to c = zeros_beyond _ _ _ c.if-to-from.false c.if-bytes-to.true
-
 pub returns : goal.returns
-returns c = zeros_asked _ _ _ c.if-to-from.false c.if-bytes-to.false c.empty_from.ensures
+unfolding empty_from
+returns c =
+    let asked : MatchOption c.get.result (c.is_some_and.result ≡ false) (λ part. c.is_some_and.result ≡ empty_from 0 part.now) = search rules in
+    zeros_between _ _ _ _ c.get.ensures.lookup.0 asked

@@ -1,11 +1,6 @@
 -- `lists::put_bytes`: what is left of the list, written from the place reached, gives the whole list written.
-use Prim.Native.Nat.{◌-◌}
-use lib.ListN.{length}
 use Rattle.laws.specs.Written.{Writing}
 use Rattle.lists.proofs.put_bytes.Given as goal
 
 abbrev pub invariant-loop-i : goal.invariant-loop-i
 invariant-loop-i l = Writing l.list l.initial.out l.at l.out l.i
-
-abbrev pub decreases-loop-i : goal.decreases-loop-i
-decreases-loop-i l = length l.list - l.i

@@ -9,7 +9,7 @@ pub act-requires : goal.act-requires
 unfolding Acts
 act-requires c =
     let r = ready _ (state_in c.args.cells.now c.args.holds.now) c.args.event c.decide-answer.ensures c.requires in
-    (c.requires, search (rules, r), search rules, search rules)
+    (c.requires, search (rules, r))
 
 pub returns : goal.returns
 returns c =

@@ -1,35 +1,10 @@
--- `reading::entry_section`: what is left of the entries from here answers what all of them do.
-use mathlib.Core.Path.{◌∙◌}
-use Rattle.reading.specs.Reading.{counted, entry_section}
-use Rattle.reading.proofs.Scanned.{counted_refused, counted_byte, counted_start, item_refused, item_passed, many_none, entry_steady, entry_above, entry_within}
+-- `reading::entry_section`: a step answers as the reader of one thing does.
+use Rattle.std.proofs.Common.{rules}
+use Rattle.reading.specs.Reading.{entry_section, entry, after_entry}
+use Rattle.reading.proofs.Scanned.{counted_read, entry_steady}
 use Rattle.reading.proofs.entry_section.Goals as goal
 
-pub returns-in_default : goal.returns-in_default
-unfolding entry_section counted
-returns-in_default c = counted_refused _ _ _ _ _ c.count_of-counted.ensures c.in_default.is
-
-pub bounds-file-from : goal.bounds-file-from
-bounds-file-from c =
-    (counted_byte _ _ _ _ c.count_of-counted.ensures c.in-Next.is).byte.within
-
-pub loop-left-init : goal.loop-left-init
-unfolding entry_section counted
-loop-left-init c =
-    counted_start _ _ _ _ _ c.count_of-counted.ensures c.in-Next.is c.wide-left.ensures
-
-pub returns-in_default-seen : goal.returns-in_default-seen
-returns-in_default-seen c =
-    item_refused _ _ _ _ _ c.loop-left-test.true c.entry_at-seen.ensures c.in_default-seen.is
-    ∙ c.loop-left.invariant
-
-pub bounds-file-at : goal.bounds-file-at
-bounds-file-at c =
-    entry_within _ _ _ _ c.entry_at-seen.ensures c.in-Next-seen.is
-
-pub loop-left-preserved : goal.loop-left-preserved
-loop-left-preserved c =
-    item_passed _ _ _ _ _ c.loop-left-test.true c.entry_at-seen.ensures (entry_steady _ _) c.in-Next-seen.is (λ v e. (entry_above _ _ _ _ c.wide-least.ensures e).0)
-    ∙ c.loop-left.invariant
-
 pub returns : goal.returns
-returns c = many_none _ _ _ _ _ c.loop-left-test.false ∙ c.loop-left.invariant
+unfolding entry_section
+returns c =
+    counted_read (entry c.args.tracks) after_entry _ (entry_steady _) _ _ _ c.counted.ensures (search rules)

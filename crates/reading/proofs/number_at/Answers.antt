@@ -1,19 +1,10 @@
--- `reading::number_at`: the tests stand in the order of the definition.
-use borrow.Author.Tests.{lt-ltb, le-ltb}
-use Rattle.reading.proofs.Scanned.{number_end, number_unfit, number_low, number_good}
+-- `reading::number_at`: where the step ends.
+use Rattle.std.proofs.Common.{rules}
+use Rattle.reading.proofs.Scanned.{step_refused, step_passed, number_steady}
 use Rattle.reading.proofs.number_at.Goals as goal
 
-pub returns-then-file-at : goal.returns-then-file-at
-returns-then-file-at c = number_end _ _ _ _ c.if-file-at.true
-
-pub returns-then-limit-found : goal.returns-then-limit-found
-returns-then-limit-found c =
-    number_unfit _ _ _ _ c.if-file-at.false (le-ltb _ _ (rw c.wide-found.ensures at c.if-limit-found.true))
-
-pub returns-then-found-least : goal.returns-then-found-least
-returns-then-found-least c =
-    number_low _ _ _ _ c.if-file-at.false (lt-ltb _ _ (rw c.wide-found.ensures at c.if-limit-found.false)) (rw c.wide-found.ensures at c.if-found-least.true)
+pub returns-in_err-next : goal.returns-in_err-next
+returns-in_err-next c = step_refused _ _ _ _ _ c.number_step.ensures (search rules) c.in_err-next.was
 
 pub returns : goal.returns
-returns c =
-    number_good _ _ _ _ c.if-file-at.false (lt-ltb _ _ (rw c.wide-found.ensures at c.if-limit-found.false)) (rw c.wide-found.ensures at c.if-found-least.false)
+returns c = step_passed _ _ _ _ _ c.number_step.ensures (number_steady _ _) c.in_ok-next.was

@@ -1,31 +1,10 @@
--- `reading::path_list`: what is left of the list from here answers what the whole list does.
-use mathlib.Core.Path.{refl, ◌∙◌}
-use Rattle.reading.specs.Reading.{counted, path_list}
-use Rattle.reading.proofs.Scanned.{counted_refused, counted_byte, counted_start, item_refused, item_passed, many_none, number_steady}
+-- `reading::path_list`: a step answers as the reader of one thing does.
+use Rattle.std.proofs.Common.{rules}
+use Rattle.reading.specs.Reading.{path_list, number, below, free}
+use Rattle.reading.proofs.Scanned.{counted_read, number_steady, free_step}
 use Rattle.reading.proofs.path_list.Goals as goal
 
-pub returns-in_default : goal.returns-in_default
-unfolding path_list counted
-returns-in_default c = counted_refused _ _ _ _ _ c.count_of-counted.ensures c.in_default.is
-
-pub bounds-file-from : goal.bounds-file-from
-bounds-file-from c =
-    (counted_byte _ _ _ _ c.count_of-counted.ensures c.in-Next.is).byte.within
-
-pub loop-left-init : goal.loop-left-init
-unfolding path_list counted
-loop-left-init c =
-    counted_start _ _ _ _ _ c.count_of-counted.ensures c.in-Next.is c.wide-left.ensures
-
-pub returns-in_default-seen : goal.returns-in_default-seen
-returns-in_default-seen c =
-    item_refused _ _ _ _ _ c.loop-left-test.true c.number_at-seen.ensures c.in_default-seen.is
-    ∙ c.loop-left.invariant
-
-pub loop-left-preserved : goal.loop-left-preserved
-loop-left-preserved c =
-    item_passed _ _ _ _ _ c.loop-left-test.true c.number_at-seen.ensures (number_steady _ _) c.in-Next-seen.is (λ v e. refl)
-    ∙ c.loop-left.invariant
-
 pub returns : goal.returns
-returns c = many_none _ _ _ _ _ c.loop-left-test.false ∙ c.loop-left.invariant
+unfolding path_list
+returns c =
+    counted_read (number (below c.args.tracks)) free _ (number_steady _) _ _ _ c.counted.ensures (λ at least answer post. search (rules, free_step (number (below c.args.tracks))))

@@ -1,40 +1,11 @@
--- `reading::release_list`: what is left of the list from here answers what the whole list does.
-use mathlib.Core.Path.{◌∙◌}
-use native.Mathlib.Omega.{arith}
-use Rattle.reading.specs.Reading.{counted, release_list}
-use Rattle.reading.proofs.Scanned.{counted_refused, counted_byte, counted_start, item_refused, item_passed, many_none, release_steady, release_above, release_within}
+-- `reading::release_list`: a step answers as the reader of one thing does.
+use Rattle.std.proofs.Common.{rules}
+use Rattle.plan.specs.Image.{plan_of}
+use Rattle.reading.specs.Reading.{release_list, release, after_release}
+use Rattle.reading.proofs.Scanned.{counted_read, release_steady}
 use Rattle.reading.proofs.release_list.Goals as goal
 
-pub returns-in_default : goal.returns-in_default
-unfolding release_list counted
-returns-in_default c = counted_refused _ _ _ _ _ c.count_of-counted.ensures c.in_default.is
-
-pub bounds-file-from : goal.bounds-file-from
-bounds-file-from c =
-    (counted_byte _ _ _ _ c.count_of-counted.ensures c.in-Next.is).byte.within
-
-pub loop-left-init : goal.loop-left-init
-unfolding release_list counted
-loop-left-init c =
-    counted_start _ _ _ _ _ c.count_of-counted.ensures c.in-Next.is c.wide-left.ensures
-
-pub returns-in_default-seen : goal.returns-in_default-seen
-returns-in_default-seen c =
-    item_refused _ _ _ _ _ c.loop-left-test.true c.release_at-seen.ensures c.in_default-seen.is
-    ∙ c.loop-left.invariant
-
-pub overflow_add-at : goal.overflow_add-at
-overflow_add-at c =
-    omega (arith, release_within _ _ _ _ c.release_at-seen.ensures c.in-Next-seen.is)
-
-pub bounds-file-at : goal.bounds-file-at
-bounds-file-at c =
-    release_within _ _ _ _ c.release_at-seen.ensures c.in-Next-seen.is
-
-pub loop-left-preserved : goal.loop-left-preserved
-loop-left-preserved c =
-    item_passed _ _ _ _ _ c.loop-left-test.true c.release_at-seen.ensures (release_steady _ _) c.in-Next-seen.is (λ v e. (release_above _ _ _ _ c.wide-least.ensures e).0)
-    ∙ c.loop-left.invariant
-
 pub returns : goal.returns
-returns c = many_none _ _ _ _ _ c.loop-left-test.false ∙ c.loop-left.invariant
+unfolding release_list
+returns c =
+    counted_read (release (plan_of c.args.image.now).tracks) after_release _ (release_steady _) _ _ _ c.counted.ensures (search rules)

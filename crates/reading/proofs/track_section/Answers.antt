@@ -1,31 +1,25 @@
--- `reading::track_section`: what is left of the tracks from here answers what all of them do.
-use mathlib.Core.Path.{refl, ◌∙◌}
-use Rattle.reading.specs.Reading.{track_section}
-use Rattle.reading.proofs.Scanned.{counted_refused, counted_byte, counted_start, item_refused, item_passed, many_none, track_steady}
+-- `reading::track_section`: the count, which its things' reader knows, then the tracks.
+use Rattle.std.specs.Prelude.{Result, ℕ, ◌≡◌}
+use Rattle.std.proofs.Common.{rules, ◌∙◌}
+use Rattle.reading.specs.declared.Form.{Form}
+use Rattle.reading.specs.Calls.{freed}
+use Rattle.reading.specs.Reading.{scanned, track_section, track, free}
+use Rattle.reading.proofs.Scanned.{counted_refused, counted_byte, counted_start, many_read, track_steady, free_same}
 use Rattle.reading.proofs.track_section.Goals as goal
 
-pub returns-in_default : goal.returns-in_default
+pub returns-in_err-first : goal.returns-in_err-first
 unfolding track_section
-returns-in_default c = counted_refused _ _ _ _ _ c.count_of-counted.ensures c.in_default.is
+returns-in_err-first c = counted_refused _ _ _ _ _ c.count_of.ensures (search rules) c.in_err-first.was
 
 pub bounds-file-from : goal.bounds-file-from
-bounds-file-from c =
-    (counted_byte _ _ _ _ c.count_of-counted.ensures c.in-Next.is).byte.within
-
-pub loop-left-init : goal.loop-left-init
-unfolding track_section
-loop-left-init c =
-    counted_start _ _ _ _ _ c.count_of-counted.ensures c.in-Next.is c.wide-tracks.ensures
-
-pub returns-in_default-seen : goal.returns-in_default-seen
-returns-in_default-seen c =
-    item_refused _ _ _ _ _ c.loop-left-test.true c.track_at-seen.ensures c.in_default-seen.is
-    ∙ c.loop-left.invariant
-
-pub loop-left-preserved : goal.loop-left-preserved
-loop-left-preserved c =
-    item_passed _ _ _ _ _ c.loop-left-test.true c.track_at-seen.ensures (track_steady _) c.in-Next-seen.is (λ v e. refl)
-    ∙ c.loop-left.invariant
+bounds-file-from c = (counted_byte _ _ _ _ c.count_of.ensures c.in_ok-first.was).byte.within
 
 pub returns : goal.returns
-returns c = many_none _ _ _ _ _ c.loop-left-test.false ∙ c.loop-left.invariant
+unfolding track_section
+returns c =
+    let tracks = c.from-tracks.result in
+    many_read (λ least. track tracks) free _ (λ least. track_steady _) _ _ c.many.ensures (λ at least answer post.
+    let end : (r : Result ℕ Form) × (r ≡ scanned (track tracks) c.args.file.now at) = search rules in
+    let step : answer ≡ freed end.0 = search rules in
+    free_same (track tracks) _ _ _ end.1 step)
+    ∙ counted_start _ _ _ _ _ c.count_of.ensures c.in_ok-first.was c.from-tracks.ensures

@@ -1,23 +1,21 @@
--- `routes::later`: up to the track, what is left of the path answers as the whole path does.
-use mathlib.Core.Path.{refl, sym, ◌∙◌}
-use Rattle.routes.proofs.Paths.{later_found, later_passed, later_done}
+-- `routes::later`: the point does not stand from the track on, if the track is on the path at all.
+use Rattle.std.specs.List.{position}
+use Rattle.std.proofs.Common.{◌≡◌, ◌-◌, sym, ◌∙◌, ap, not, eqb, take, drop, length, take_all, length-drop, arith, rules, tests}
+use Rattle.std.proofs.lemmas.Iterator.{YieldsList-from_slice}
+use Rattle.std.proofs.lemmas.Iterator.Search.{position_from_yields_List}
+use Rattle.laws.specs.Lists.{has}
+use Rattle.routes.proofs.Paths.{later_found, later_absent}
 use Rattle.routes.proofs.later.Goals as goal
 
-pub loop-i-init : goal.loop-i-init
-loop-i-init c = refl
+pub returns-in-None : goal.returns-in-None
+returns-in-None c =
+    let at : c.position.result ≡ position (λ u. eqb u c.args.track) c.args.path.now = position_from_yields_List (λ u. eqb u c.args.track) _ _ _ c.position.ensures.ran (YieldsList-from_slice c.args.path.now cc) (λ x b q k. search (rules, tests)) in
+    sym (later_absent c.args.track c.args.point c.args.path.now (sym at ∙ c.in-None.is))
 
-pub returns-then-wide-track : goal.returns-then-wide-track
-returns-then-wide-track c =
-    let at-loop-test = c in
-    let at-loop = at-loop-test in
-    let start = at-loop in
-    sym (later_found start.args.path.now _ at-loop-test.loop-i-test.true c.wide.ensures _ _ c.if-wide-track.true c.has.ensures) ∙ at-loop.loop-i.invariant
-
-pub loop-i-preserved : goal.loop-i-preserved
-loop-i-preserved c =
-    let at-loop = c in
-    let start = at-loop in
-    sym (later_passed start.args.path.now _ c.loop-i-test.true c.wide.ensures _ _ c.if-wide-track.false) ∙ at-loop.loop-i.invariant
-
-pub returns : goal.returns
-returns c = sym (later_done c.args.path.now _ _ _ c.loop-i-test.false) ∙ c.loop-i.invariant
+pub returns-in-Some : goal.returns-in-Some
+returns-in-Some c =
+    let path = c.args.path.now in
+    let i = c.in-Some.i in
+    let at : c.position.result ≡ position (λ u. eqb u c.args.track) path = position_from_yields_List (λ u. eqb u c.args.track) _ _ _ c.position.ensures.ran (YieldsList-from_slice path cc) (λ x b q k. search (rules, tests)) in
+    let rest : take (length path - i) (drop i path) ≡ drop i path = take_all (length path - i) (drop i path) (omega (arith, length-drop i path)) in
+    ap not (c.has.ensures ∙ ap (has c.args.point) rest) ∙ sym (later_found c.args.track c.args.point path (sym at ∙ c.in-Some.is))

@@ -1,12 +1,14 @@
--- `routes::listed_out`: for the normal lie, or else for the reverse one.
-use Rattle.laws.specs.Chains.{either_stop, either_go}
-use Rattle.rules.specs.Rules.{listed_out}
+-- `routes::listed_out`: for the one lie or the other.
+use Rattle.std.proofs.Common.{◌∙◌, ap, Bool, true, false, [], ◌∷◌, ◌||◌, rules, tests}
+use Rattle.std.proofs.Math.Bool.{or-false}
+use Rattle.std.proofs.lemmas.Iterator.{YieldsList-from_slice}
+use Rattle.std.proofs.lemmas.Iterator.Search.{any_from_yields_List}
+use Rattle.plan.specs.Image.{plan_of}
+use Rattle.rules.specs.Rules.{wants_out, listed_out}
 use Rattle.routes.proofs.listed_out.Goals as goal
 
-pub returns-then-wants_out : goal.returns-then-wants_out
-unfolding listed_out
-returns-then-wants_out c = either_stop c.wants_out.ensures _ c.if-wants_out.true
-
 pub returns : goal.returns
-unfolding listed_out
-returns c = either_go c.wants_out.ensures c.if-wants_out.false c.wants_out-2.ensures
+unfolding listed_out wants_out
+returns c =
+    let test = λ (lie : Bool). wants_out (plan_of c.args.image.now) c.args.route c.args.point lie c.args.to in
+    any_from_yields_List test _ _ _ c.any.ensures.ran (YieldsList-from_slice (false ∷ true ∷ []) cc) (λ x b q k. search (rules, tests)) ∙ ap (λ (b : Bool). test false || b) (or-false (test true))

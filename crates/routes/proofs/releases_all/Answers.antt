@@ -1,40 +1,15 @@
--- `routes::releases_all`: what is left of the releases passes exactly if all of them do.
-use lib.ListN.{length, get_or}
-use Prim.Native.Nat.{◌<◌}
-use mathlib.Core.Bool.{Bool}
-use mathlib.Core.List.{List}
-use mathlib.Core.Path.{◌≡◌, refl, sym, ◌∙◌}
-use Rattle.laws.specs.Walks.{all_passed, all_failed, all_done}
-use Rattle.plan.specs.declared.Release.{Release}
-use Rattle.plan.specs.Records.{route_of}
-use Rattle.plan.specs.Routes.{no_release}
+-- `routes::releases_all`: the pairs of the image are the releases, one by one.
+use Rattle.std.proofs.Common.{◌∙◌, List, ℕ, get_or, rules, tests}
+use Rattle.std.proofs.lemmas.Iterator.{YieldsList-from_slice}
+use Rattle.std.proofs.lemmas.Iterator.Search.{all_from_yields_List}
 use Rattle.plan.specs.Image.{plan_of}
 use Rattle.rules.specs.Rules.{release_fits}
-use Rattle.routes.proofs.Ways.{pairs_count, pairs_over, fits_read}
+use Rattle.routes.proofs.Ways.{pairs_all}
 use Rattle.routes.proofs.releases_all.Goals as goal
-
-pub loop-i-init : goal.loop-i-init
-loop-i-init c = refl
-
-pub returns-then-not-release_fits : goal.returns-then-not-release_fits
-returns-then-not-release_fits c =
-    let fits : Release → Bool = λ q. release_fits (plan_of c.args.image.now) c.args.route q.track q.point in
-    let releases : List Release = (route_of (plan_of c.args.image.now) c.args.route).releases in
-    let within : c.loop-i.i < length releases = pairs_count _ _ c.releases_of-pairs.ensures c.loop-i-test.true in
-    let tested : fits (get_or releases c.loop-i.i no_release) ≡ c.release_fits.result = fits_read (plan_of c.args.image.now) c.args.route _ c.releases_of-pairs.ensures
-    c.wide-track.ensures c.wide-point.ensures c.release_fits.ensures in
-    sym (all_failed fits _ _ no_release within (tested ∙ c.if-not-release_fits.true)) ∙ c.loop-i.invariant
-
-pub loop-i-preserved : goal.loop-i-preserved
-loop-i-preserved c =
-    let fits : Release → Bool = λ q. release_fits (plan_of c.args.image.now) c.args.route q.track q.point in
-    let releases : List Release = (route_of (plan_of c.args.image.now) c.args.route).releases in
-    let within : c.loop-i.i < length releases = pairs_count _ _ c.releases_of-pairs.ensures c.loop-i-test.true in
-    let tested : fits (get_or releases c.loop-i.i no_release) ≡ c.release_fits.result = fits_read (plan_of c.args.image.now) c.args.route _ c.releases_of-pairs.ensures
-    c.wide-track.ensures c.wide-point.ensures c.release_fits.ensures in
-    sym (all_passed fits _ _ no_release within (tested ∙ c.if-not-release_fits.false)) ∙ c.loop-i.invariant
 
 pub returns : goal.returns
 returns c =
-    let fits : Release → Bool = λ q. release_fits (plan_of c.args.image.now) c.args.route q.track q.point in
-    sym (all_done fits _ _ (pairs_over _ _ c.releases_of-pairs.ensures c.loop-i-test.false)) ∙ c.loop-i.invariant
+    let fits = release_fits (plan_of c.args.image.now) c.args.route in
+    let test = λ (a : List ℕ). fits (get_or a 0 0) (get_or a 1 0) in
+    let tested = all_from_yields_List test _ _ _ c.all.ensures.ran (YieldsList-from_slice c.as_chunks.result.0.now cc) (λ x b q k. search (rules, tests)) in
+    tested ∙ pairs_all _ c.releases_of.ensures c.as_chunks.ensures.front fits

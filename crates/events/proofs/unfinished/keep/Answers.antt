@@ -10,7 +10,7 @@ overflow_mul-at c =
 
 pub overflow_add-left : goal.overflow_add-left
 overflow_add-left c =
-    omega (arith, few c.args.unfinished.now c.args.bytes.now c.waiting.ensures)
+    omega (arith, few c.args.unfinished.now c.args.bytes.now c.waiting.ensures, c.well_formed.1.0.1)
 
 pub overflow_add-at : goal.overflow_add-at
 overflow_add-at c =
@@ -18,5 +18,5 @@ overflow_add-at c =
 
 pub returns : goal.returns
 returns c =
-    left_kept c.args.unfinished.now c.args.bytes.now c.waiting.ensures c.whole_count-at.ensures c.byte_at-first.ensures
-    c.byte_at-second.ensures
+    left_kept c.args.unfinished.now c.args.bytes.now c.waiting.ensures c.whole_count-at.ensures c.byte_at.ensures
+    c.byte_at-2.ensures

@@ -6,11 +6,11 @@ use Rattle.state.specs.Holds.{room}
 use Rattle.state.proofs.Holds.{member_room}
 use Rattle.state.proofs.HoldSet.without.Goals as goal
 
-pub overflow_shl-result : goal.overflow_shl-result
-overflow_shl-result c = member_room room _ _ (omega (arith, c.well_formed)) (sym c.has.ensures ∙ c.if-has.true)
+pub overflow_shl-route : goal.overflow_shl-route
+overflow_shl-route c = member_room room _ _ (omega (arith, c.well_formed)) (sym c.has.ensures ∙ c.if-has.true)
 
-pub overflow_sub-result : goal.overflow_sub-result
-overflow_sub-result c =
+pub overflow_sub-self : goal.overflow_sub-self
+overflow_sub-self c =
     let m = c.args.self.routes in
     let r = c.args.route in
     let e = sym c.has.ensures ∙ c.if-has.true in

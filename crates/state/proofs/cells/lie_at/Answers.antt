@@ -1,9 +1,10 @@
--- `cells::lie_at`: the cell at its place in the part.
+-- `cells::lie_at`: the part has a cell for each.
+use native.Mathlib.Omega.{arith}
 use Rattle.plan.specs.Limits.{most_tracks}
 use Rattle.state.specs.Cells.{lies_from, lies_in}
-use Rattle.state.proofs.Parts.{part_at}
+use Rattle.state.proofs.Parts.{part_long}
 use Rattle.state.proofs.cells.lie_at.Goals as goal
 
-pub returns : goal.returns
+pub bounds-lies_of-point : goal.bounds-lies_of-point
 unfolding lies_in
-returns c = part_at lies_from most_tracks _ _ c.requires
+bounds-lies_of-point c = omega (arith, c.requires, part_long lies_from most_tracks _ _ c.lies_of.ensures (omega arith))

@@ -1,26 +1,19 @@
--- `form::greens_name`: each signal passed is red, or green for a route that starts there.
-use mathlib.Core.Path.{sym, ◌∙◌}
-use native.Mathlib.Omega.{arith}
-use Rattle.laws.specs.Walks.{below_start, below_passed, below_failed, below_done}
+-- `form::greens_name`: there is a cell for each signal; the chain over the signals is the definition's test of every number.
+use Rattle.std.proofs.Common.{◌∙◌, ap, rules, tests}
+use Rattle.std.proofs.iter.Serving.{serving}
+use Rattle.laws.specs.Search.{all_below}
+use Rattle.plan.specs.Image.{plan_of}
 use Rattle.plan.proofs.View.{signals_most}
-use Rattle.state.specs.State.{greens_name}
-use Rattle.state.proofs.Tests.{named_shown}
-use borrow.Author.Rules.{rules}
+use Rattle.state.specs.State.{named_at, greens_name}
+use Rattle.state.specs.Cells.{signals_in}
+use Rattle.laws.specs.Walks.{all_in_range}
 use Rattle.state.proofs.form.greens_name.Goals as goal
 
-pub loop-s-init : goal.loop-s-init
-loop-s-init c = (search rules, below_start _)
-
-pub shown_at-requires : goal.shown_at-requires
-shown_at-requires c = omega (arith, c.signals-count.ensures, signals_most c.args.image.now)
-
-pub returns-then-not-green_names : goal.returns-then-not-green_names
-unfolding greens_name
-returns-then-not-green_names c = sym (below_failed _ _ _ (rw c.signals-count.ensures at c.loop-s-test.true) (named_shown _ _ _ _ (c.wide.ensures ∙ c.shown_at.ensures) ∙ sym c.green_names.ensures ∙ c.if-not-green_names.true))
-
-pub loop-s-preserved : goal.loop-s-preserved
-loop-s-preserved c = (search rules, below_passed _ _ c.loop-s.invariant.1 (named_shown _ _ _ _ (c.wide.ensures ∙ c.shown_at.ensures) ∙ sym c.green_names.ensures ∙ c.if-not-green_names.false))
+pub all-requires-clause-callable : goal.all-requires-clause-callable
+all-requires-clause-callable c = let few = signals_most c.args.image.now in grind serving
 
 pub returns : goal.returns
-unfolding greens_name
-returns c = sym (below_done _ _ _ c.loop-s.invariant.1 (omega (arith, c.signals-count.ensures)))
+unfolding greens_name named_at
+returns c =
+    let test = named_at (plan_of c.args.image.now) (signals_in c.args.cells.now) in
+    all_in_range test _ _ _ _ c.all.ensures.ran (λ x b q k. search (rules, tests)) ∙ ap (λ n. all_below n test) c.signals.ensures

@@ -1,25 +1,19 @@
--- `form::points_only`: each track passed is a point or is neither reverse nor held.
-use mathlib.Core.Path.{sym, ◌∙◌}
-use native.Mathlib.Omega.{arith}
-use Rattle.laws.specs.Walks.{below_start, below_passed, below_failed, below_done}
+-- `form::points_only`: there is a cell for each track; the chain over the tracks is the definition's test of every number.
+use Rattle.std.proofs.Common.{◌∙◌, ap, rules, tests}
+use Rattle.std.proofs.iter.Serving.{serving}
+use Rattle.laws.specs.Search.{all_below}
+use Rattle.plan.specs.Image.{plan_of}
 use Rattle.plan.proofs.View.{tracks_most}
-use Rattle.state.specs.State.{points_only}
-use borrow.Author.Rules.{rules}
+use Rattle.state.specs.State.{point_or, points_only}
+use Rattle.state.specs.Cells.{lies_in}
+use Rattle.laws.specs.Walks.{all_in_range}
 use Rattle.state.proofs.form.points_only.Goals as goal
 
-pub loop-u-init : goal.loop-u-init
-loop-u-init c = (search rules, below_start _)
-
-pub point_or-requires : goal.point_or-requires
-point_or-requires c = omega (arith, c.tracks-count.ensures, tracks_most c.args.image.now)
-
-pub returns-then-not-point_or : goal.returns-then-not-point_or
-unfolding points_only
-returns-then-not-point_or c = sym (below_failed _ _ _ (rw c.tracks-count.ensures at c.loop-u-test.true) (sym c.point_or.ensures ∙ c.if-not-point_or.true))
-
-pub loop-u-preserved : goal.loop-u-preserved
-loop-u-preserved c = (search rules, below_passed _ _ c.loop-u.invariant.1 (sym c.point_or.ensures ∙ c.if-not-point_or.false))
+pub all-requires-clause-callable : goal.all-requires-clause-callable
+all-requires-clause-callable c = let few = tracks_most c.args.image.now in grind serving
 
 pub returns : goal.returns
 unfolding points_only
-returns c = sym (below_done _ _ _ c.loop-u.invariant.1 (omega (arith, c.tracks-count.ensures)))
+returns c =
+    let test = point_or (plan_of c.args.image.now) (lies_in c.args.cells.now) c.args.holds.now in
+    all_in_range test _ _ _ _ c.all.ensures.ran (λ x b q k. search (rules, tests)) ∙ ap (λ n. all_below n test) c.tracks.ensures

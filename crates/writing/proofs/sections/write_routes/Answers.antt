@@ -1,66 +1,22 @@
 -- `writing::sections::write_routes`: the count's byte, and at each turn the routes before it are written and the others are left.
-use mathlib.Core.Path.{refl}
-use mathlib.Core.List.{List, ◌∷◌}
-use Prim.Native.Nat.{ℕ, ◌+◌}
-use native.Mathlib.Omega.{arith}
-use lib.ListN.{drop, set}
+use Rattle.std.proofs.Common.{refl, arith}
+use Rattle.plan.specs.File.{route_file}
 use Rattle.plan.specs.Records.{no_route, route_of}
-use Rattle.plan.specs.File.{counted_file, route_file}
-use Rattle.plan.specs.Image.{plan_of}
-use Rattle.plan.proofs.View.{routes_most}
-use Rattle.laws.specs.Written.{wrote_long}
-use Rattle.writing.proofs.Writes.{Left, left_within, left_part_room, left_part, left_turn, left_stop, byte_start, byte_within, byte_end, counted_is}
+use Rattle.writing.proofs.Writes.{left_fits, left_next, left_turn, left_stop, byte_start, byte_end, counted_is}
 use Rattle.writing.proofs.sections.write_routes.Goals as goal
 
-pub overflow_cast-out : goal.overflow_cast-out
-overflow_cast-out c = omega (arith, c.routes-routes.ensures, routes_most c.args.image.now)
-
-pub bounds-out-0 : goal.bounds-out-0
-unfolding counted_file
-bounds-out-0 c = omega (arith, c.requires)
-
-pub loop-i-init : goal.loop-i-init
-loop-i-init c = byte_start c.args.out.now c.routes-routes.ensures (counted_is route_file _ refl refl) c.requires
-
-pub slice_bounds-write_route-count : goal.slice_bounds-write_route-count
-unfolding route_of
-slice_bounds-write_route-count c =
-    let with-count : List ℕ = set c.args.out.now 0 c.routes-routes.result in
-    let next-left : let plan = plan_of c.args.image.now in Left route_file plan.routes with-count 1 (route_of plan c.loop-i.i ∷ drop (c.loop-i.i + 1) plan.routes) c.loop-i.out c.loop-i.at = left_turn c.loop-i.i c.loop-i.invariant c.routes-routes.ensures no_route c.loop-i-test.true in
-    left_within next-left
-
-pub slice_bounds-write_route-start : goal.slice_bounds-write_route-start
-unfolding route_of
-slice_bounds-write_route-start c =
-    let with-count : List ℕ = set c.args.out.now 0 c.routes-routes.result in
-    let next-left : let plan = plan_of c.args.image.now in Left route_file plan.routes with-count 1 (route_of plan c.loop-i.i ∷ drop (c.loop-i.i + 1) plan.routes) c.loop-i.out c.loop-i.at = left_turn c.loop-i.i c.loop-i.invariant c.routes-routes.ensures no_route c.loop-i-test.true in
-    left_within next-left
+pub loop-route-init : goal.loop-route-init
+loop-route-init c = byte_start c.args.out.now c.routes-routes.ensures (counted_is route_file _ refl refl) c.requires
 
 pub write_route-at-requires : goal.write_route-at-requires
 unfolding route_of
-write_route-at-requires c =
-    let with-count : List ℕ = set c.args.out.now 0 c.routes-routes.result in
-    let next-left : let plan = plan_of c.args.image.now in Left route_file plan.routes with-count 1 (route_of plan c.loop-i.i ∷ drop (c.loop-i.i + 1) plan.routes) c.loop-i.out c.loop-i.at = left_turn c.loop-i.i c.loop-i.invariant c.routes-routes.ensures no_route c.loop-i-test.true in
-    left_part_room next-left
+write_route-at-requires c = left_fits (left_turn c.loop-route.route c.loop-route.invariant c.routes-routes.ensures no_route (omega arith))
 
-pub loop-i-preserved : goal.loop-i-preserved
+pub loop-route-preserved : goal.loop-route-preserved
 unfolding route_of
-loop-i-preserved c =
-    let with-count : List ℕ = set c.args.out.now 0 c.routes-routes.result in
-    let next-left : let plan = plan_of c.args.image.now in Left route_file plan.routes with-count 1 (route_of plan c.loop-i.i ∷ drop (c.loop-i.i + 1) plan.routes) c.loop-i.out c.loop-i.at = left_turn c.loop-i.i c.loop-i.invariant c.routes-routes.ensures no_route c.loop-i-test.true in
-    left_part next-left refl c.write_route-at.ensures
-
-pub overflow_add-at : goal.overflow_add-at
-unfolding route_of
-overflow_add-at c =
-    let with-count : List ℕ = set c.args.out.now 0 c.routes-routes.result in
-    let next-left : let plan = plan_of c.args.image.now in Left route_file plan.routes with-count 1 (route_of plan c.loop-i.i ∷ drop (c.loop-i.i + 1) plan.routes) c.loop-i.out c.loop-i.at = left_turn c.loop-i.i c.loop-i.invariant c.routes-routes.ensures no_route c.loop-i-test.true in
-    omega (arith, byte_within c.args.out.now c.routes-routes.ensures (left_part next-left refl c.write_route-at.ensures))
+loop-route-preserved c = left_next (left_turn c.loop-route.route c.loop-route.invariant c.routes-routes.ensures no_route (omega arith)) c.write_route-at.ensures
 
 pub returns : goal.returns
 returns c =
-    let written = left_stop c.loop-i.i c.loop-i.invariant c.routes-routes.ensures c.loop-i-test.false in
-    byte_end c.args.out.now c.routes-routes.ensures (counted_is route_file _ refl refl) written
-
-pub shape_of-out : goal.shape_of-out
-shape_of-out c = wrote_long (let written = left_stop c.loop-i.i c.loop-i.invariant c.routes-routes.ensures c.loop-i-test.false in byte_end c.args.out.now c.routes-routes.ensures (counted_is route_file _ refl refl) written)
+    byte_end c.args.out.now c.routes-routes.ensures (counted_is route_file _ refl refl)
+    (left_stop c.loop-route.route c.loop-route.invariant c.routes-routes.ensures (omega arith))

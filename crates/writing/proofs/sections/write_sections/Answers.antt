@@ -5,8 +5,7 @@ use Prim.Native.Nat.{ℕ, ◌+◌}
 use lib.ListN.{drop}
 use Rattle.plan.specs.Records.{Plan}
 use Rattle.plan.specs.Image.{plan_of}
-use Rattle.laws.specs.Written.{wrote_long}
-use Rattle.writing.proofs.Writes.{Left, part_back, left_none, left_part_room, left_part, front_start, front_part, itself, plan_parts, plan_parts_lem}
+use Rattle.writing.proofs.Writes.{Left, part_back, left_none, left_part, front_start, front_part, itself, plan_parts, plan_parts_lem}
 use Rattle.writing.proofs.sections.write_sections.Goals as goal
 
 -- What the function comes to: nothing is left once the entries are written.
@@ -24,61 +23,3 @@ returns c =
     let routes-left : SectionsLeft 2 with-signals signals-end = left_part signals-left refl c.write_signals.ensures in
     let entries-left : SectionsLeft 3 with-routes routes-end = left_part routes-left refl c.write_routes.ensures in
     rw (plan_parts_lem plan) at (left_none (left_part entries-left refl c.write_entries.ensures))
-
-pub write_tracks-signals_from-requires : goal.write_tracks-signals_from-requires
-write_tracks-signals_from-requires c =
-    let plan : Plan = plan_of c.args.image.now in
-    let SectionsLeft : ℕ → List ℕ → ℕ → Type 0 = λ n memory at. Left itself (plan_parts plan) c.args.out.now 0 (drop n (plan_parts plan)) memory at in
-    let tracks-left : SectionsLeft 0 c.args.out.now 0 = front_start (plan_parts_lem plan) c.requires in
-    left_part_room tracks-left
-
-pub write_signals-requires : goal.write_signals-requires
-write_signals-requires c =
-    let with-tracks : List ℕ = part_back 0 c.args.out.now c.write_tracks-signals_from.new.out in
-    let plan : Plan = plan_of c.args.image.now in
-    let SectionsLeft : ℕ → List ℕ → ℕ → Type 0 = λ n memory at. Left itself (plan_parts plan) c.args.out.now 0 (drop n (plan_parts plan)) memory at in
-    let tracks-left : SectionsLeft 0 c.args.out.now 0 = front_start (plan_parts_lem plan) c.requires in
-    let signals-left : SectionsLeft 1 with-tracks c.write_tracks-signals_from.result = front_part tracks-left refl c.write_tracks-signals_from.ensures in
-    left_part_room signals-left
-
-pub write_routes-requires : goal.write_routes-requires
-write_routes-requires c =
-    let with-tracks : List ℕ = part_back 0 c.args.out.now c.write_tracks-signals_from.new.out in
-    let with-signals : List ℕ = part_back c.write_tracks-signals_from.result with-tracks c.write_signals.new.out in
-    let signals-end : ℕ = c.write_tracks-signals_from.result + c.write_signals.result in
-    let plan : Plan = plan_of c.args.image.now in
-    let SectionsLeft : ℕ → List ℕ → ℕ → Type 0 = λ n memory at. Left itself (plan_parts plan) c.args.out.now 0 (drop n (plan_parts plan)) memory at in
-    let tracks-left : SectionsLeft 0 c.args.out.now 0 = front_start (plan_parts_lem plan) c.requires in
-    let signals-left : SectionsLeft 1 with-tracks c.write_tracks-signals_from.result = front_part tracks-left refl c.write_tracks-signals_from.ensures in
-    let routes-left : SectionsLeft 2 with-signals signals-end = left_part signals-left refl c.write_signals.ensures in
-    left_part_room routes-left
-
-pub write_entries-requires : goal.write_entries-requires
-write_entries-requires c =
-    let with-tracks : List ℕ = part_back 0 c.args.out.now c.write_tracks-signals_from.new.out in
-    let with-signals : List ℕ = part_back c.write_tracks-signals_from.result with-tracks c.write_signals.new.out in
-    let signals-end : ℕ = c.write_tracks-signals_from.result + c.write_signals.result in
-    let with-routes : List ℕ = part_back signals-end with-signals c.write_routes.new.out in
-    let routes-end : ℕ = signals-end + c.write_routes.result in
-    let plan : Plan = plan_of c.args.image.now in
-    let SectionsLeft : ℕ → List ℕ → ℕ → Type 0 = λ n memory at. Left itself (plan_parts plan) c.args.out.now 0 (drop n (plan_parts plan)) memory at in
-    let tracks-left : SectionsLeft 0 c.args.out.now 0 = front_start (plan_parts_lem plan) c.requires in
-    let signals-left : SectionsLeft 1 with-tracks c.write_tracks-signals_from.result = front_part tracks-left refl c.write_tracks-signals_from.ensures in
-    let routes-left : SectionsLeft 2 with-signals signals-end = left_part signals-left refl c.write_signals.ensures in
-    let entries-left : SectionsLeft 3 with-routes routes-end = left_part routes-left refl c.write_routes.ensures in
-    left_part_room entries-left
-
-pub shape_of-out : goal.shape_of-out
-shape_of-out c =
-    let plan : Plan = plan_of c.args.image.now in
-    let with-tracks : List ℕ = part_back 0 c.args.out.now c.write_tracks-signals_from.new.out in
-    let with-signals : List ℕ = part_back c.write_tracks-signals_from.result with-tracks c.write_signals.new.out in
-    let signals-end : ℕ = c.write_tracks-signals_from.result + c.write_signals.result in
-    let with-routes : List ℕ = part_back signals-end with-signals c.write_routes.new.out in
-    let routes-end : ℕ = signals-end + c.write_routes.result in
-    let SectionsLeft : ℕ → List ℕ → ℕ → Type 0 = λ n memory at. Left itself (plan_parts plan) c.args.out.now 0 (drop n (plan_parts plan)) memory at in
-    let tracks-left : SectionsLeft 0 c.args.out.now 0 = front_start (plan_parts_lem plan) c.requires in
-    let signals-left : SectionsLeft 1 with-tracks c.write_tracks-signals_from.result = front_part tracks-left refl c.write_tracks-signals_from.ensures in
-    let routes-left : SectionsLeft 2 with-signals signals-end = left_part signals-left refl c.write_signals.ensures in
-    let entries-left : SectionsLeft 3 with-routes routes-end = left_part routes-left refl c.write_routes.ensures in
-    wrote_long (rw (plan_parts_lem plan) at (left_none (left_part entries-left refl c.write_entries.ensures)))

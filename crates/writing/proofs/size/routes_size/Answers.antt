@@ -1,23 +1,27 @@
--- `writing::size::routes_size`: at each turn the routes before it are added up, and with the others they make the section.
-use native.Mathlib.Omega.{arith}
+-- `writing::size::routes_size`: each is within its limit, so that the sum is small; it is what they come to, one after another.
+use Rattle.std.proofs.Common.{◌≡◌, ◌∙◌, ℕ, ◌≤◌, ◌^◌, length, get_or, arith, rules, tests}
+use Rattle.std.proofs.lemmas.Iterator.{YieldsList-from_range, YieldsList-from_map}
+use Rattle.std.proofs.lemmas.Iterator.Adapters.{fits_from_length, at_most_from_yields_List}
+use Rattle.std.proofs.lemmas.Iterator.Consumers.{sum_from_yields_List}
+use Rattle.std.proofs.lemmas.List.FromFn.{length-range_with_len}
+use Rattle.plan.specs.Limits.{most_routes}
+use Rattle.plan.specs.File.{route_file}
 use Rattle.plan.specs.Records.{no_route, route_of}
-use Rattle.writing.proofs.Lengths.{routes_long_most, sizing_start, sizing_turn, sizing_end}
+use Rattle.plan.specs.Image.{plan_of}
+use Rattle.plan.proofs.View.{routes_most}
+use Rattle.writing.proofs.Lengths.{route_most, files_sum}
 use Rattle.writing.proofs.size.routes_size.Goals as goal
 
-pub loop-i-init : goal.loop-i-init
-loop-i-init c = sizing_start
-
-pub loop-i-preserved : goal.loop-i-preserved
-unfolding route_of
-loop-i-preserved c =
-    sizing_turn c.loop-i.invariant c.routes.ensures no_route c.loop-i-test.true c.route_size-size.ensures
-
-pub overflow_add-size : goal.overflow_add-size
-unfolding route_of
-overflow_add-size c = omega (arith, (sizing_turn c.loop-i.invariant c.routes.ensures no_route c.loop-i-test.true c.route_size-size.ensures).sum, routes_long_most c.args.image.now)
-
-pub loop-i-smaller : goal.loop-i-smaller
-loop-i-smaller c = omega (arith, c.routes.ensures)
+pub sum-requires-clause-fits : goal.sum-requires-clause-fits
+sum-requires-clause-fits c =
+    let n = c.routes.result in
+    let few : n ≤ most_routes = omega (arith, c.routes.ensures, routes_most c.args.image.now) in
+    fits_from_length _ _ most_routes (2 ^ 64) (at_most_from_yields_List (YieldsList-from_range 0 n n c.map.ensures.source (omega arith)) (omega (arith, few, length-range_with_len 0 n))) c.map.ensures.closure (omega arith)
+    (λ x r q k. let told : (q ≡ _) × (r ≡ length (route_file (route_of (plan_of c.args.image.now) x))) = search (rules, tests) in (told.0, omega (arith, told.1, route_most c.args.image.now x)))
 
 pub returns : goal.returns
-returns c = sizing_end c.loop-i.invariant c.routes.ensures c.loop-i-test.false
+unfolding route_of
+returns c =
+    let plan = plan_of c.args.image.now in
+    let added = sum_from_yields_List c.map.result _ c.sum.ensures.ran (YieldsList-from_map _ (λ (i : ℕ). length (route_file (get_or plan.routes i no_route))) (YieldsList-from_range 0 c.routes.result c.routes.result c.map.ensures.source (omega arith)) c.map.ensures.closure (λ x r q k. search (rules, tests))) in
+    added ∙ files_sum route_file no_route plan.routes c.routes.ensures
