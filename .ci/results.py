@@ -92,8 +92,18 @@ def member_type(file, owner, bound, member, own):
     """The type of what a bound gives of a type, as the contract names it: of a closure what it may answer, by what it is given."""
     closure = re.fullmatch(r'Fn\((.*)\)\s*->\s*(.*)', bound)
     if closure and member == 'post':
-        given = [file.type_of(part, own) for part in parts(closure[1], ',', angled=True) if part] + [file.type_of(closure[2], own)]
-        return ' → '.join([owner, *(nested(kind) for kind in given), 'Type 0'])
+        given, after = [], []
+        for part in parts(closure[1], ',', angled=True) if closure[1] else ():
+            # what is lent to be written stands there as it is lent, and after the answer as it is left
+            lent = re.match(r"\s*&\s*(?:'\w+\s+)?mut\b", part)
+            kind = file.type_of(part, own)
+            if lent:
+                file.take('Rattle.std.specs.Borrow', 'MutBor')
+                kind = f'MutBor {nested(kind)}'
+                after.append(kind)
+            given.append(kind)
+        given.append(file.type_of(closure[2], own))
+        return ' → '.join([owner, *(nested(kind) for kind in [*given, *after]), 'Type 0'])
     if closure or member not in MEMBERS:
         raise Unknown(f'{owner}.{member}, which a bound gives')
     if 'Bool' in MEMBERS[member]:
@@ -136,12 +146,14 @@ def law(file, f, found, laws):
     asked, met = [], {}
     for i, (shape, _, text) in enumerate(found):
         if shape == 'for a closure':
-            word, kind, said, _ = told_by_a_closure(text)
-            if word in (taken for names, _ in binders for taken in names.split()):
-                raise Unknown(f'a definition {word} for a closure, beside a parameter of that name')
-            binders.append((word, kind))
+            told, said, _ = told_by_a_closure(text)
+            for word, _ in told:
+                if word in (taken for names, _ in binders for taken in names.split()):
+                    raise Unknown(f'a definition {word} for a closure, beside a parameter of that name')
+            binders += told
             asked.append(named(said))
-            met[i] = f'{word} meets_{word}'
+            meets = f'meets_{"_".join(word for word, _ in told)}'
+            met[i] = f'{" ".join(word for word, _ in told)} {meets}'
     found = [(shape, results, named(text)) for shape, results, text in found]
     sized = any("state_in cells' holds'" in result for _, results, _ in found for result in results)
     if sized:
@@ -151,7 +163,7 @@ def law(file, f, found, laws):
     file.take(*EQUALS)
     names = ' '.join(word for word, _ in binders)
     grouped = [(' '.join(word for word, _ in group), kind) for kind, group in groupby(binders, lambda binder: binder[1])]
-    sizes = ''.join(f' {one.split()[1]}' for one in met.values()) + (' sized sized_other' if sized else '')
+    sizes = ''.join(f' {one.split()[-1]}' for one in met.values()) + (' sized sized_other' if sized else '')
     types, terms = [], []
     for i, (shape, results, text) in enumerate(found):
         one, two = ('by_one', 'by_other') if len(found) == 1 else (f'by_one.{i}', f'by_other.{i}')
@@ -187,6 +199,9 @@ def applied(file, shape, results, one, two, laws):
         return same(results[0]), arrays.format(one, two)
     where, head, term, arity = laws[shape]
     file.take(module_of(where), head)
+    if shape == 'for any':
+        file.take(WORDS, '[]')
+        return same(results[0]), f'{term} [] _ _ _ {one} {two}'
     if arity is None:
         return same(results[0]), f'{term} _ _ _ {one} {two}'
     told = f'{term} {"_ " * (arity + len(results))}{one} {two}'

@@ -104,12 +104,18 @@ class Function:
     def closure_shape(self, part):
         """The shape of a part that says what comes of it for any definition that a closure answers by: as of an equality, where what is asked is of
         a closure that the function takes, names the definition, and speaks of no result."""
-        name, _, asked, equal = told_by_a_closure(part)
+        told, asked, equal = told_by_a_closure(part)
         sides = parts(equal, '≡')
         posts = set(re.findall(r'(?<![\w.])(\w+)\.post(?!\w)', asked))
         if len(sides) != 2 or re.search('[→⊎∨↔]', equal) or not RESULT.fullmatch(sides[0]) or 'state_in' in sides[0]:
             return None, [], []
-        if len(posts) != 1 or any(not re.match(r'Fn\b', self.generics.get(owner, '')) for owner in posts) or not re.search(rf"(?<![\w.]){name}(?![\w'])", asked):
+        if len(posts) != 1 or any(not re.match(r'Fn\b', self.generics.get(owner, '')) for owner in posts):
+            return None, [], []
+        if any(not re.search(rf"(?<![\w.]){name}(?![\w'])", asked) for name, _ in told):
+            return None, [], []
+        # what is asked is asked of the closure alone, whatever else the function is given: else it would say nothing for some of that
+        given = [(word.replace('mut ', '').strip(), kind.strip()) for word, _, kind in (parameter.partition(':') for parameter in self.parameters)]
+        if any(re.search(rf"(?<![\w.]){word}(?!\w)", ' '.join([asked, *(kind for _, kind in told)])) for word, kind in given if kind not in posts):
             return None, [], []
         return 'for a closure', sides[:1], [asked, *sides[1:]]
 
@@ -118,26 +124,28 @@ RESULT = re.compile(r"r|\w+'|\(?state_in cells' holds'\)?")
 
 
 def told_by_a_closure(part):
-    """Of a part of a contract that is so for any definition of which something is asked: the definition's name, its type, what is asked of it, and what
-    is so; or None."""
-    bound = re.fullmatch(r'\((\w+) : ([^()]*)\) → (.*)', part)
-    steps = parts(bound[3], '→') if bound else []
-    return (bound[1], bound[2], steps[0], steps[1]) if len(steps) == 2 and '.post' in steps[0] else None
+    """Of a part of a contract that is so for any definition, or several, of which something is asked: each definition's name with its type, what is asked,
+    and what is so; or None."""
+    bound = re.fullmatch(r'((?:\(\w+ : [^()]*\) )+)→ (.*)', part)
+    steps = parts(bound[2], '→') if bound else []
+    return (re.findall(r'\((\w+) : ([^()]*)\)', bound[1]), *steps) if len(steps) == 2 and '.post' in steps[0] else None
 
 
 def shape_of(part, heads):
     """The shape of one part of a contract, with the results that it fixes and what it fixes them by: an equality of a result, of the state in the
-    two lent arrays or of a field; or a record, of which each result is an argument. No shape: None."""
-    sides = parts(part, '≡')
-    if len(sides) == 2 and not re.search('[→⊎∨↔]', part):
+    two lent arrays, of a field, or for any value of something; or a record, of which each result is an argument. No shape: None."""
+    bound = re.fullmatch(r'\(\w+ : [^()]*\) → (.*)', part)
+    sides = parts(bound[1] if bound else part, '≡')
+    if len(sides) == 2 and not re.search('[→⊎∨↔]', sides[0] + sides[1]):
         field = re.fullmatch(r'r(\.\w+)', sides[0])
-        if field:
+        if field and not bound:
             return f'`{field[1]}`', ['r'], sides[1:]
         if RESULT.fullmatch(sides[0]):
-            return 'state' if 'state_in' in sides[0] else 'equality', sides[:1], sides[1:]
+            state = 'state_in' in sides[0]
+            return (None if state else 'for any') if bound else 'state' if state else 'equality', sides[:1], sides[1:]
         return None, [], []
     head, *rest = arguments(part)
-    if len(sides) > 1 or head not in heads:
+    if len(sides) > 1 or bound or head not in heads:
         return None, [], []
     return f'`{heads[head]}`', [a for a in rest if RESULT.fullmatch(a)], [a for a in rest if not RESULT.fullmatch(a)]
 
@@ -322,7 +330,8 @@ def turned(f, found):
 
 
 def calls_in(body):
-    return [(m[1], (m[2] + m[3]).split('::')) for m in re.finditer(r'(\.\s*)?((?:\w+\s*::\s*)*)(\w+)\s*\(', body)]
+    # after the two dots of a range stands a function, and no method
+    return [(m[1], (m[2] + m[3]).split('::')) for m in re.finditer(r'((?<!\.)\.\s*)?((?:\w+\s*::\s*)*)(\w+)\s*\(', body)]
 
 
 def named(call, path, uses, found):

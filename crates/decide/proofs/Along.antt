@@ -1,12 +1,12 @@
 -- Walks along lists: on a list that rises the first is the lowest; of two lists the lower of both.
-use Rattle.std.specs.Prelude.{cond, None, Option, Some, MatchOption, IsSomeAnd}
+use Rattle.std.specs.Prelude.{None, Option, Some}
 use mathlib.Core.Path.{◌≡◌, refl, sym, ap, ◌∙◌}
 use mathlib.Core.Bool.{Bool, true, false, ◌&&◌, ◌||◌}
 use mathlib.Core.Logic.{inl, inr}
 use mathlib.Core.List.{List, [], ◌∷◌}
 use Prim.Native.Nat.{ℕ, zero, suc, ◌+◌, ◌<◌, ◌≤◌}
 use native.Mathlib.Omega.{arith}
-use lib.ListN.{length, get_or}
+use lib.ListN.{length}
 use lib.Dec.{ltb}
 use borrow.Author.Tests.{ne_eqb, lt-ltb, le-ltb}
 use Rattle.laws.specs.Tests.{Is, clash, fails, same?, below?, and_r, and_i, or_l, or_r}
@@ -16,7 +16,6 @@ use Rattle.plan.specs.Records.{Plan, route_of, entry_of}
 use Rattle.plan.specs.Routes.{listed}
 use Rattle.plan.specs.File.{Rises, Readable}
 use Rattle.plan.proofs.Says.{point_below}
-use Rattle.state.specs.State.{no_train}
 use Rattle.events.specs.Decide.{has_train, is_held, busy, with_train, busy_train, turns, held_other, held_point, derails, derailed_point}
 use Rattle.events.proofs.Facts.{rises_lt, route_read, entry_read}
 use Rattle.decide.proofs.Cells.{turns_listed}
@@ -68,23 +67,6 @@ rising_first n f (x ∷ l) w = go (f x) refl (rising_first n f l (after n x l w)
     go : (b : Bool) → f x ≡ b → lowest n (λ u. f u && has u l) ≡ first_of f l → lowest n (λ u. f u && has u (x ∷ l)) ≡ first_of f (x ∷ l)
     go true t ih = at_lowest n _ record { below = w.each.0; passes = passes t; first = first } ∙ rw t
     go false t ih = lowest_same n _ _ (λ u _. other t u) ∙ ih ∙ rw t
-
--- What a walk finds is one of the list.
-pub first_below : {n : ℕ} (f : ℕ → Bool) (l : List ℕ) → All (λ u. u < n) l → {x : ℕ} → first_of f l ≡ Some x → x < n
-unfolding first_of All
-first_below f [] w e = cc
-first_below {n} f (y ∷ l) w {x} e = go (f y) refl (first_below f l w.1)
-  where
-    go : (b : Bool) → f y ≡ b → (first_of f l ≡ Some x → x < n) → x < n
-    go true t rest = let found : cond true (Some y) (first_of f l) ≡ Some x = rw t at e in let same : y ≡ x = cc in rw (← same) w.0
-    go false t rest = let found : cond false (Some y) (first_of f l) ≡ Some x = rw t at e in rest found
-
--- The track that was found, with the train that was read there.
-pub train_found : (trains : List ℕ) {o : Option ℕ} (P : ℕ → ℕ × ℕ → Type 0) (found : Option ℕ) (r : Option (ℕ × ℕ)) → found ≡ o
-    → MatchOption found (r ≡ None) (λ x. IsSomeAnd r (P x)) → ((x : ℕ) (y : ℕ × ℕ) → P x y → y ≡ (x, get_or trains x no_train)) → r ≡ with_train trains o
-train_found trains P None r e m told = rw (← e, m)
-train_found trains P (Some x) None e m told = absurd m
-train_found trains P (Some x) (Some y) e m told = rw (← e, told x y m)
 
 -- A list that doesn't rise tells the two apart: of 5 and 3, in this order, a walk finds 5, and a search by number 3.
 pub walk_is_no_search : let l : List ℕ = 5 ∷ 3 ∷ [] in let f : ℕ → Bool = λ u. ltb 2 u in (first_of f l ≡ Some 5) × (lowest 6 (λ u. f u && has u l) ≡ Some 3)

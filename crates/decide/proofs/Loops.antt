@@ -1,15 +1,17 @@
--- Walks that are loops, and tests that are branches: what is left of a list finds what the whole does, and what each branch tells. The walks of today's
--- code are chains (Found.antt); these laws stand for code that is written otherwise.
+-- Walks along lists, and tests that are branches: what is left of a list finds what the whole does, and what each branch tells. The walk for a train is a
+-- loop; those for points are chains, which go the same way (Found.antt).
 use Rattle.std.specs.Prelude.{None, Some}
 use mathlib.Core.Path.{◌≡◌, sym, ap, ◌∙◌}
 use mathlib.Core.Bool.{Bool, true, false, ◌&&◌}
 use mathlib.Core.Logic.{◌≢◌}
 use mathlib.Core.List.{List}
-use Prim.Native.Nat.{ℕ, ◌+◌, ◌<◌, ◌≤◌}
-use lib.ListN.{length, get_or, drop}
+use Prim.Native.Nat.{ℕ, ◌+◌, ◌-◌, ◌<◌, ◌≤◌}
+use native.Mathlib.Omega.{arith}
+use Rattle.std.proofs.Common.{take_all}
+use lib.ListN.{length, get_or, take, drop}
 use lib.Dec.{ltb}
 use borrow.Author.Tests.{ne_eqb, lt-ltb, le-ltb}
-use Rattle.laws.specs.Lists.{walk_step, walk_end}
+use Rattle.laws.specs.Lists.{All, all_at, walk_step, walk_end}
 use Rattle.state.specs.State.{no_train}
 use Rattle.events.specs.Decide.{has_train, with_train}
 use Rattle.decide.specs.Along.{first_of}
@@ -48,6 +50,30 @@ module _ {trains l : List ℕ} {start i : ℕ} (w : Looked trains l start i) whe
 
   pub look_over : length l ≤ i → None ≡ with_train trains (first_of (has_train trains) (drop start l))
   look_over h = ap (with_train trains) (walk_over w.walked h)
+
+-- The same where what is walked is a part of the list, and all of it.
+module _ {trains l m : List ℕ} {i : ℕ} (w : Looked trains l 0 i) (same : m ≡ l) where
+  module _ {x t : ℕ} (h : i < length m) (e : x ≡ get_or m i 0) (d : t ≡ get_or trains x no_train) where
+    pub part_met : t ≢ no_train → Some (x, t) ≡ with_train trains (first_of (has_train trains) l)
+    part_met = let k : i < length l = rw same at h in look_met w k (rw same at e) d
+
+    pub part_on : t ≡ no_train → Looked trains l 0 (i + 1)
+    part_on = let k : i < length l = rw same at h in look_on w k (rw same at e) d
+
+  pub part_over : length m ≤ i → None ≡ with_train trains (first_of (has_train trains) l)
+  part_over h = look_over w (rw same at h)
+
+pub part_below : {n x i : ℕ} {l m : List ℕ} → m ≡ l → All (λ u. u < n) l → i < length m → x ≡ get_or m i 0 → x < n
+part_below {n} {x} {i} {l} same w h e =
+    let k : i < length l = rw same at h in
+    let d : x ≡ get_or l i 0 = rw same at e in
+    omega (arith, d, all_at _ _ _ 0 w k)
+
+pub whole_of : {A : Type 0} (l : List A) → take (length l) l ≡ l
+whole_of l = take_all (length l) l (omega arith)
+
+pub whole_from : {A : Type 0} (l : List A) → take (length l - 0) l ≡ l
+whole_from l = take_all (length l - 0) l (omega arith)
 
 -- 11: whether the plan has the route or the entry, by the count that was read.
 module _ {n m r : ℕ} (e : n ≡ m) where

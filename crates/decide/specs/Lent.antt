@@ -13,6 +13,10 @@ plan junction = plan_of junction.image.now
 abbrev pub state : Junction → State
 state junction = state_in junction.cells.now junction.holds.now
 
+-- the same, whichever routes hold which points
+abbrev pub state_with : Junction → List ℕ → State
+state_with junction holds = state_in junction.cells.now holds
+
 abbrev pub normal : Points → List ℕ
 normal points = points.normal.now
 

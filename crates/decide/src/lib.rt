@@ -4,7 +4,7 @@
 mod chain;
 mod tests;
 
-ghost use Rattle.std.specs.Prelude.{◌≡◌};
+ghost use Rattle.std.specs.Prelude.{◌≡◌, List, ℕ};
 ghost use Rattle.plan.specs.File.{Readable};
 ghost use Rattle.plan.specs.Image.{plan_of};
 ghost use Rattle.events.specs.declared.Event.TheVariants.{Request, Cancel, Enter, Move};
@@ -38,7 +38,7 @@ pub struct Points<'a> {
 }
 
 impl Junction<'_> {
-    ghost use Rattle.decide.specs.Lent.{plan, state};
+    ghost use Rattle.decide.specs.Lent.{plan, state, state_with};
 
     // A request: 11, 12, 13, 14, 42.
     fn request(self, route: usize) -> Result<Deed, Answer>
@@ -61,9 +61,9 @@ impl Junction<'_> {
         Ok(Deed::Granted(route))
     }
 
-    // A cancel: 11, 15, 16.
+    // A cancel, whatever the holds: 11, 15, 16.
     fn cancel(self, route: usize) -> Result<Deed, Answer>
-        ensures { result ≡ chained (decided (plan self.entry) (state self.entry) (Cancel route)) }
+        ensures { (holds : List ℕ) → result ≡ chained (decided (plan self.entry) (state_with self.entry holds) (Cancel route)) }
     {
         ensure(route < routes(self.image), Refusal::BadEvent)?;
         let start = start_of(self.image, route);
@@ -74,9 +74,9 @@ impl Junction<'_> {
         Ok(Deed::Cancelled(route))
     }
 
-    // An entry: 11, 17, 13, 40.
+    // An entry, whatever the holds: 11, 17, 13, 40.
     fn enter(self, entry: usize, train: u8) -> Result<Deed, Answer>
-        ensures { result ≡ chained (decided (plan self.entry) (state self.entry) (Enter entry train)) }
+        ensures { (holds : List ℕ) → result ≡ chained (decided (plan self.entry) (state_with self.entry holds) (Enter entry train)) }
     {
         ensure(entry < entries(self.image), Refusal::BadEvent)?;
         ensure(train != 0, Refusal::BadEvent)?;
@@ -91,9 +91,9 @@ impl Junction<'_> {
         Ok(Deed::Entered { train, track })
     }
 
-    // A move: 11, 18, 19, and then 40 and 41. From an exit the train leaves.
+    // A move, whatever the holds: 11, 18, 19, and then 40 and 41. From an exit the train leaves.
     fn go(self, train: u8) -> Result<Deed, Answer>
-        ensures { result ≡ chained (decided (plan self.entry) (state self.entry) (Move train)) }
+        ensures { (holds : List ℕ) → result ≡ chained (decided (plan self.entry) (state_with self.entry holds) (Move train)) }
     {
         ensure(train != 0, Refusal::BadEvent)?;
         let from = self.front_of(train).ok_or(Refusal::TrainOut)?;
@@ -108,7 +108,6 @@ impl Junction<'_> {
     }
 
     // The answer to an event of any kind. Test 10 stands apart.
-    #[tactic(auto, using(crate::proofs::Told::answer_done, crate::proofs::Told::answer_stopped), unfolding(events::specs::Decide::decided))]
     pub fn decide(self, event: Event) -> Answer
         ensures { result ≡ decided (plan self.entry) (state self.entry) event }
     {

@@ -44,16 +44,19 @@ impl Junction<'_> {
         !HoldSet::from(self.holds[point]).is_empty()
     }
 
-    // The first track of a list that has a train, and the train.
+    // The first track of a list that has a train, and the train: what is looked at is what is handed back.
     fn busy_in(self, clear: &[u8]) -> Option<(usize, u8)>
         requires { All (λ u. u < most_tracks) clear.now }
         ensures { result ≡ with_train (state self.entry).trains (first_of (has_train (state self.entry).trains) clear.now) }
     {
-        clear
-            .iter()
-            .map(|track| usize::from(*track))
-            .find(|track| self.has_train(*track))
-            .map(|track| (track, train_at(self.cells, track)))
+        for on in clear {
+            let track = usize::from(*on);
+            let train = train_at(self.cells, track);
+            if train != 0 {
+                return Some((track, train));
+            }
+        }
+        None
     }
 
     // 13: the lowest track of a clear list that has a train, and the train that stands there. A clear list rises, so that it is the first.

@@ -22,6 +22,14 @@ in_step : (k n : ℕ) → 10 ≤ n → decimal_in (suc k) n ≡ decimal_in k (n 
 unfolding decimal_in
 in_step k n h = rw (le-ltb n 10 h)
 
+pub decimal_small : (n : ℕ) → n < 10 → decimal n ≡ digit n ∷ []
+unfolding decimal
+decimal_small n h = in_small 19 n h
+
+pub decimal_two : (n : ℕ) → 10 ≤ n → n < 100 → decimal n ≡ digit (n / 10) ∷ digit (n % 10) ∷ []
+unfolding decimal
+decimal_two n h few = in_step 19 n h ∙ ap (λ l. l ++ digit (n % 10) ∷ []) (in_small 18 (n / 10) (omega arith))
+
 -- What the library writes of a number.
 pub decimal_written : (n : ℕ) → n < 2 ^ 64 → decimal n ≡ written n
 unfolding decimal

@@ -5,6 +5,12 @@ use denote.Bor.{Bor}
 use Rattle.lines.specs.Decimal.{decimal}
 use Rattle.lines.specs.Lines.{end, parts_line}
 
+pub put_long_once : (n : ℕ) (out : List ℕ) (at r r₂ : ℕ) (out' out'' : List ℕ)
+    → (Wrote (decimal n) out at out' r)
+    → (Wrote (decimal n) out at out'' r₂)
+    → (out' is out'') × (r is r₂)
+put_long_once n out at r r₂ out' out'' by_one by_other = wrote_once _ _ _ _ _ _ _ by_one by_other
+
 pub put_decimal_once : (n : ℕ) (out : List ℕ) (at r r₂ : ℕ) (out' out'' : List ℕ)
     → (Wrote (decimal n) out at out' r)
     → (Wrote (decimal n) out at out'' r₂)

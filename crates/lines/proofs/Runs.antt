@@ -1,16 +1,31 @@
--- The room that is left after a word and a number.
+-- Written numbers: their digits, and the room that is left after a word and a number.
 use mathlib.Core.Path.{◌≡◌, ◌∙◌}
 use mathlib.Core.List.{List, ◌∷◌, ◌++◌}
-use Prim.Native.Nat.{ℕ, ◌+◌, ◌<◌, ◌≤◌}
+use Prim.Native.Nat.{ℕ, ◌+◌, ◌/◌, ◌%◌, ◌<◌, ◌≤◌}
 use native.Mathlib.Nat.{le_refl}
 use native.Mathlib.Omega.{arith}
-use lib.ListN.{length, get_or, drop, length-append}
+use lib.ListN.{length, get_or, drop, set, length-append}
 use Rattle.std.proofs.Common.{add-one, drop-cons, drop_of_length-le}
 use denote.Bor.{Bor}
-use Rattle.laws.specs.Written.{Wrote, wrote_long, wrote_then}
-use Rattle.lines.specs.Decimal.{decimal, number_most}
+use Rattle.laws.specs.Written.{Wrote, wrote_long, wrote_then, wrote_byte}
+use Rattle.lines.specs.Decimal.{digit, decimal, number_most}
 use Rattle.lines.specs.Lines.{end, parts_line, parts_most}
-use Rattle.lines.proofs.Digits.{decimal_most}
+use Rattle.lines.proofs.Digits.{decimal_small, decimal_two, decimal_most}
+
+-- A number of one digit, and of two.
+
+pub wrote_digit : (n : ℕ) (before : List ℕ) (at : ℕ) → n < 10 → at + number_most ≤ length before
+    → Wrote (decimal n) before at (set before at (digit n)) (at + 1)
+wrote_digit n before at h room = rw (decimal_small n h) (wrote_byte (digit n) before at (omega arith))
+
+pub wrote_two : (n : ℕ) (before : List ℕ) (at : ℕ) → 10 ≤ n → n < 100 → at + number_most ≤ length before
+    → Wrote (decimal n) before at (set (set before at (digit (n / 10))) (at + 1) (digit (n % 10))) (at + 2)
+wrote_two n before at h few room =
+    let first = wrote_byte (digit (n / 10)) before at (omega arith) in
+    let long = wrote_long first in
+    let second = wrote_byte (digit (n % 10)) (set before at (digit (n / 10))) (at + 1) (omega arith) in
+    let two : at + 1 + 1 ≡ at + 2 = omega arith in
+    rw (decimal_two n h few, ← two) (wrote_then first second)
 
 -- what is left of the memory after a word and a number
 pub room_after : (word : List ℕ) (n most : ℕ) {total : ℕ} {before between : List ℕ} {at next : ℕ} → length word + number_most + most ≤ total

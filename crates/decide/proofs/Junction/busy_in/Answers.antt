@@ -1,33 +1,24 @@
 -- `Junction::busy_in`: the first of the list that has a train, and the train.
-use Rattle.std.specs.Prelude.{◌≡◌}
-use Rattle.std.proofs.Common.{rules, tests, sym, ◌∙◌}
-use Rattle.std.proofs.lemmas.Iterator.{YieldsList-from_slice, YieldsList-from_map}
-use Rattle.state.specs.Cells.{trains_in}
-use Rattle.events.specs.Decide.{has_train}
-use Rattle.decide.specs.Along.{first_of}
-use Rattle.decide.proofs.Along.{first_below, train_found}
-use Rattle.decide.proofs.Found.{first_found, all_callable, lent_below}
+use mathlib.Core.Path.{refl}
+use Rattle.std.proofs.Common.{rules}
+use Rattle.decide.proofs.Loops.{part_met, part_on, part_over, part_below, whole_of, whole_from}
 use Rattle.decide.proofs.Junction.busy_in.Goals as goal
 
+pub loop-on-init : goal.loop-on-init
+loop-on-init c = record { walked = record { left = refl } }
+
+-- The walk's end stands first, so that one that ends too soon is refused for what it hands back. What is walked may be written as a part that is all of
+-- the list.
 pub returns : goal.returns
-returns c =
-    train_found _ _ c.find.result _
-    (first_found _ c.args.clear.now _ _ _ c.find.ensures.ran
-    (YieldsList-from_map _ _ (YieldsList-from_slice _ (search rules)) c.map.ensures.closure (λ x r q k. search (rules, tests)))
-    (λ x b q k. search (rules, tests)))
-    c.map-2.ensures.cases
-    (λ x y k. search (rules, tests))
+returns c = part_over c.loop-on.invariant (search (rules, whole_of, whole_from)) c.loop-on-test.false
 
-pub find-requires-clause-callable : goal.find-requires-clause-callable
-find-requires-clause-callable c =
-    all_callable c.args.clear.now c.requires
-    (YieldsList-from_map _ _ (YieldsList-from_slice _ (search rules)) c.map.ensures.closure (λ x r q k. search (rules, tests)))
-    (λ x q k. search (rules, tests))
-    (λ x below. search (lent_below below))
+pub returns-then-train-ne0 : goal.returns-then-train-ne0
+returns-then-train-ne0 c =
+    part_met c.loop-on.invariant (search (rules, whole_of, whole_from)) c.loop-on-test.true c.from-track.ensures c.train_at-train.ensures c.if-train-ne0.true
 
-pub map-requires-2 : goal.map-requires-2
-map-requires-2 c =
-    let found : c.find.result ≡ first_of (has_train (trains_in c.args.self.cells.now)) c.args.clear.now = first_found _ c.args.clear.now _ _ c.find.result c.find.ensures.ran
-    (YieldsList-from_map _ _ (YieldsList-from_slice _ (search rules)) c.map.ensures.closure (λ x r q k. search (rules, tests)))
-    (λ x b q k. search (rules, tests)) in
-    λ x e. let below = first_below _ c.args.clear.now c.requires (sym found ∙ e) in search (rules, below)
+pub loop-on-preserved : goal.loop-on-preserved
+loop-on-preserved c =
+    part_on c.loop-on.invariant (search (rules, whole_of, whole_from)) c.loop-on-test.true c.from-track.ensures c.train_at-train.ensures c.if-train-ne0.false
+
+pub train_at-train-requires : goal.train_at-train-requires
+train_at-train-requires c = part_below (search (rules, whole_of, whole_from)) c.requires c.loop-on-test.true c.from-track.ensures

@@ -8,7 +8,7 @@ use Rattle.decide.proofs.Junction.cancel.Goals as goal
 
 pub returns-in_err-ensure : goal.returns-in_err-ensure
 unfolding decided
-returns-in_err-ensure c =
+returns-in_err-ensure c holds =
     refused _ c.from_residual.ensures.1 ∙ rw (by_count _ c.routes.ensures (failed _ c.in_err-ensure.ensures).0, (failed _ c.in_err-ensure.ensures).1)
 
 pub shown_at-requires : goal.shown_at-requires
@@ -18,7 +18,7 @@ shown_at-requires c =
 
 pub returns-in_err-ensure-2 : goal.returns-in_err-ensure-2
 unfolding decided answer_cancel is_green
-returns-in_err-ensure-2 c =
+returns-in_err-ensure-2 c holds =
     refused _ c.from_residual-in_err-ensure-2.ensures.1 ∙ rw (
       by_count _ c.routes.ensures (held _ _ c.in_ok-ensure.ensures),
       shown_so _ _ c.start_of-start.ensures (c.from-shown.ensures ∙ c.shown_at.ensures) (rw add-one at (failed _ c.in_err-ensure-2.ensures).0),
@@ -33,7 +33,7 @@ has_train-requires c =
 
 pub returns-in_err-ensure-3 : goal.returns-in_err-ensure-3
 unfolding decided answer_cancel is_green
-returns-in_err-ensure-3 c =
+returns-in_err-ensure-3 c holds =
     refused _ c.from_residual-in_err-ensure-3.ensures.1 ∙ rw (
       by_count _ c.routes.ensures (held _ _ c.in_ok-ensure.ensures),
       shown_so _ _ c.start_of-start.ensures (c.from-shown.ensures ∙ c.shown_at.ensures) (rw add-one at (held _ _ c.in_ok-ensure-2.ensures)),
@@ -44,7 +44,7 @@ returns-in_err-ensure-3 c =
 
 pub returns : goal.returns
 unfolding decided answer_cancel is_green
-returns c =
+returns c holds =
     rw (
       by_count _ c.routes.ensures (held _ _ c.in_ok-ensure.ensures),
       shown_so _ _ c.start_of-start.ensures (c.from-shown.ensures ∙ c.shown_at.ensures) (rw add-one at (held _ _ c.in_ok-ensure-2.ensures)),

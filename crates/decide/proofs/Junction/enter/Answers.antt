@@ -10,12 +10,12 @@ use Rattle.decide.proofs.Junction.enter.Goals as goal
 
 pub returns-in_err-ensure : goal.returns-in_err-ensure
 unfolding decided
-returns-in_err-ensure c =
+returns-in_err-ensure c holds =
     refused _ c.from_residual.ensures.1 ∙ rw (by_count _ c.entries.ensures (failed _ c.in_err-ensure.ensures).0, (failed _ c.in_err-ensure.ensures).1)
 
 pub returns-in_err-ensure-2 : goal.returns-in_err-ensure-2
 unfolding decided
-returns-in_err-ensure-2 c =
+returns-in_err-ensure-2 c holds =
     refused _ c.from_residual-in_err-ensure-2.ensures.1 ∙ rw (
       by_count _ c.entries.ensures (held _ _ c.in_ok-ensure.ensures),
       so (failed _ c.in_err-ensure-2.ensures).0,
@@ -24,7 +24,7 @@ returns-in_err-ensure-2 c =
 
 pub returns-in_err-ensure-3 : goal.returns-in_err-ensure-3
 unfolding decided answer_enter in_plan
-returns-in_err-ensure-3 c =
+returns-in_err-ensure-3 c holds =
     refused _ c.from_residual-in_err-ensure-3.ensures.1 ∙ rw (
       by_count _ c.entries.ensures (held _ _ c.in_ok-ensure.ensures),
       not_so (held _ _ c.in_ok-ensure-2.ensures),
@@ -38,7 +38,7 @@ busy_train-requires c = rw c.entry_clear-clear.ensures (entry_rising c.args.self
 
 pub returns-in_err-stop_at : goal.returns-in_err-stop_at
 unfolding decided answer_enter in_plan unless_train
-returns-in_err-stop_at c =
+returns-in_err-stop_at c holds =
     let found = met _ c.busy_train.result c.map.result c.map.ensures.cases c.in_err-stop_at.ensures in
     refused _ c.from_residual-in_err-stop_at.ensures.1 ∙ rw (
       by_count _ c.entries.ensures (held _ _ c.in_ok-ensure.ensures),
@@ -56,7 +56,7 @@ has_train-requires c =
 
 pub returns-in_err-ensure-4 : goal.returns-in_err-ensure-4
 unfolding decided answer_enter in_plan unless_train
-returns-in_err-ensure-4 c =
+returns-in_err-ensure-4 c holds =
     harmed _ c.from_residual-in_err-ensure-4.ensures.1 ∙ rw (
       by_count _ c.entries.ensures (held _ _ c.in_ok-ensure.ensures),
       not_so (held _ _ c.in_ok-ensure-2.ensures),
@@ -71,7 +71,7 @@ returns-in_err-ensure-4 c =
 
 pub returns : goal.returns
 unfolding decided answer_enter in_plan unless_train
-returns c =
+returns c holds =
     rw (
       by_count _ c.entries.ensures (held _ _ c.in_ok-ensure.ensures),
       not_so (held _ _ c.in_ok-ensure-2.ensures),

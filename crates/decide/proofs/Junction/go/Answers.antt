@@ -10,12 +10,12 @@ use Rattle.decide.proofs.Junction.go.Goals as goal
 
 pub returns-in_err-ensure : goal.returns-in_err-ensure
 unfolding decided
-returns-in_err-ensure c =
+returns-in_err-ensure c holds =
     refused _ c.from_residual.ensures.1 ∙ rw (so (failed _ c.in_err-ensure.ensures).0, (failed _ c.in_err-ensure.ensures).1)
 
 pub returns-in_err-from : goal.returns-in_err-from
 unfolding decided answer_move unless
-returns-in_err-from c =
+returns-in_err-from c holds =
     refused _ c.from_residual-in_err-from.ensures.1 ∙ rw (
       not_so (held _ _ c.in_ok-ensure.ensures),
       front_here (plan_of c.args.self.image.now) _ _ c.front_of.ensures ∙ c.in_err-from.ensures.ok_part,
@@ -23,7 +23,7 @@ returns-in_err-from c =
 
 pub returns-in_err-stop_at : goal.returns-in_err-stop_at
 unfolding decided answer_move move_from unless
-returns-in_err-stop_at c =
+returns-in_err-stop_at c holds =
     let found = met _ c.red_at.result c.map.result c.map.ensures.cases c.in_err-stop_at.ensures in
     refused _ c.from_residual-in_err-stop_at.ensures.1 ∙ rw (
       not_so (held _ _ c.in_ok-ensure.ensures),
@@ -33,7 +33,7 @@ returns-in_err-stop_at c =
 
 pub returns-then-is_exit : goal.returns-then-is_exit
 unfolding decided answer_move move_from unless
-returns-then-is_exit c =
+returns-then-is_exit c holds =
     rw (
       not_so (held _ _ c.in_ok-ensure.ensures),
       front_here (plan_of c.args.self.image.now) _ _ c.front_of.ensures ∙ c.in_ok-from.ensures.ok_part,
@@ -54,7 +54,7 @@ has_train-requires c =
 
 pub returns-in_err-ensure-2 : goal.returns-in_err-ensure-2
 unfolding decided answer_move move_from move_to unless
-returns-in_err-ensure-2 c =
+returns-in_err-ensure-2 c holds =
     harmed _ c.from_residual-in_err-ensure-2.ensures.1 ∙ rw (
       not_so (held _ _ c.in_ok-ensure.ensures),
       front_here (plan_of c.args.self.image.now) _ _ c.front_of.ensures ∙ c.in_ok-from.ensures.ok_part,
@@ -73,7 +73,7 @@ runs_through-requires c =
 
 pub returns-in_err-ensure-3 : goal.returns-in_err-ensure-3
 unfolding decided answer_move move_from move_to unless
-returns-in_err-ensure-3 c =
+returns-in_err-ensure-3 c holds =
     harmed _ c.from_residual-in_err-ensure-3.ensures.1 ∙ rw (
       not_so (held _ _ c.in_ok-ensure.ensures),
       front_here (plan_of c.args.self.image.now) _ _ c.front_of.ensures ∙ c.in_ok-from.ensures.ok_part,
@@ -87,7 +87,7 @@ returns-in_err-ensure-3 c =
 
 pub returns : goal.returns
 unfolding decided answer_move move_from move_to unless
-returns c =
+returns c holds =
     rw (
       not_so (held _ _ c.in_ok-ensure.ensures),
       front_here (plan_of c.args.self.image.now) _ _ c.front_of.ensures ∙ c.in_ok-from.ensures.ok_part,
